@@ -1,0 +1,5 @@
+pub mod Numbers
+pub mod Records
+pub mod Checks
+pub mod Allowed
+pub mod Stores

@@ -1,0 +1,4 @@
+pub mod Hex
+pub mod Spans
+pub mod Tallies
+pub mod Laws
