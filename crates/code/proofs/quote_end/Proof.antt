@@ -1,0 +1,35 @@
+-- `code::quote_end` meets its contract.
+use borrow.Author.Needs.{needs}
+use mathlib.Core.Path.{sym, _∙_}
+use Rattle.utf8.specs.Laws.{seen, ended}
+use Rattle.code.specs.Code.{quoteEnd}
+use Rattle.code.proofs.quote_end.Statement.{statement}
+use Rattle.code.proofs.quote_end.Tie as tie
+use Rattle.code.proofs.quote_end.Reads as reads
+use Rattle.code.proofs.quote_end.Lts as lts
+use Rattle.code.proofs.lost.Reads as lost-reads
+use Rattle.utf8.proofs.char_at.Reads as char-at-reads
+
+char-at-requires : tie.Need-char-at-requires
+char-at-requires c κs = search needs
+
+enum-told : tie.Need-enum-told
+enum-told c = search needs
+
+enum-told-2 : tie.Need-enum-told-2
+enum-told-2 c = search needs
+
+lost-requires : tie.Need-lost-requires
+lost-requires c κs = search needs
+
+returns : tie.Need-returns
+unfolding quoteEnd
+returns c = rw ((seen _ _ _ _ (sym (c .before .before .char-at .ensures) ∙ c .enum-told .given .1)) .next)
+
+returns-2 : tie.Need-returns-2
+unfolding quoteEnd
+returns-2 c = rw ((ended _ _ (sym (c .before .before .before .char-at .ensures) ∙ c .before .enum-told2 .given .1)) .none) (c .lost .ensures)
+
+pub quote-end-spec : {M : Type 1} → statement M
+quote-end-spec =
+    tie.close (tie.spec char-at-requires enum-told enum-told-2 lost-requires returns returns-2)

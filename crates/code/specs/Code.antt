@@ -1,0 +1,108 @@
+-- Where code ends. 01: "`use`, `=>` and `=>?` take code up to an uncovered `,` `;` `)` `]` `}` or the end at balance 0. Brackets, comments,
+-- quotes, regexes and strings cover". The characters cs stand at the byte place at.
+use Prim.Native.Nat.{_+_, _-_, ℕ}
+use mathlib.Core.Bool.{Bool, cond, true}
+use mathlib.Core.List.{List, [], _∷_}
+use lib.Dec.{eqb, ltb}
+use lib.ListN.{drop}
+use Rattle.utf8.specs.Chars.{'#, '*, '/, '[, '], 'backslash, 'brace, 'comma, 'dquote, 'paren, 'quote, 'r, 'semi, 'unbrace, 'unparen}
+use Rattle.utf8.specs.Utf8.{widthOf}
+use Rattle.unicode.specs.Identifier.{isIdentifierStart}
+use Rattle.record.specs.Records.{refusal}
+use Rattle.record.specs.declared.Code.the-variants.{ExpectedStringLiteral, UnterminatedCharacterLiteral, UnterminatedCode, UnterminatedStringLiteral}
+use Rattle.scan.specs.IfNext.{ifNext}
+use Rattle.scan.specs.Seek.{blockSkip, lineSkip, regexSkip, seek, skipMore, stringSkip, upTo}
+use Rattle.scan.specs.Walk.{turnOf, walk}
+use Rattle.scan.specs.declared.Found.{Found}
+use Rattle.scan.specs.declared.Found.the-variants.{At, Nothing}
+use Rattle.scan.specs.declared.Skip.{Skip}
+use Rattle.scan.specs.declared.Skip.the-variants.{Lost, Past}
+use Rattle.scan.specs.declared.Sought.the-variants.{Hashes, Quote, Word}
+use Rattle.scan.specs.declared.Turn.{Turn}
+use Rattle.scan.specs.declared.Turn.the-variants.{Pass, Stop}
+
+-- comments, after a slash at o: a line comment from its second slash, a block comment from after its star, or nothing
+unfoldable pub slashSkip : ℕ → List ℕ → ℕ → Skip
+slashSkip o [] at = Past at 0
+slashSkip o (c ∷ cs) at =
+    cond (eqb c '/) (lineSkip (c ∷ cs) at) (cond (eqb c '*) (skipMore 1 (blockSkip o cs (at + widthOf c))) (Past at 0))
+
+-- ODDITY. 01: "6 at the opening quote exactly if the text ends before this is done or straight after it". So a quoted literal is refused where
+-- the text ends straight after it: the old reading does so; a later reading may choose otherwise.
+unfoldable pub quoteEnd : ℕ → List ℕ → ℕ → ℕ → Skip
+quoteEnd o [] at m = Lost (refusal UnterminatedCharacterLiteral o) at m
+quoteEnd o (c ∷ cs) at m = Past at m
+
+-- after an opening quote at o and one character. 01: "any one character (`'` too) and, if there, a `'` directly after it"
+unfoldable pub oneSkip : ℕ → List ℕ → ℕ → Skip
+oneSkip o [] at = quoteEnd o [] at 1
+oneSkip o (c ∷ cs) at = cond (eqb c 'quote) (quoteEnd o cs (at + widthOf c) 2) (Past at 1)
+
+-- after an opening quote at o and a backslash. 01: "either a backslash, the character after it and all through the next `'` are passed"
+abbrev pub escPast : ℕ → List ℕ → Found → Skip
+escPast o cs (At p m) = quoteEnd o (drop (m + 1) cs) (p + 1) (m + 3)
+escPast o cs (Nothing p m) = Lost (refusal UnterminatedCharacterLiteral o) p (m + 2)
+
+unfoldable pub escSkip : ℕ → List ℕ → ℕ → Skip
+escSkip o [] at = Lost (refusal UnterminatedCharacterLiteral o) at 1
+escSkip o (c ∷ cs) at = escPast o cs (seek Quote cs (at + widthOf c))
+
+-- after an opening quote at o
+unfoldable pub quoteSkip : ℕ → List ℕ → ℕ → Skip
+quoteSkip o [] at = Lost (refusal UnterminatedCharacterLiteral o) at 0
+quoteSkip o (c ∷ cs) at = cond (eqb c 'backslash) (escSkip o cs (at + widthOf c)) (oneSkip o cs (at + widthOf c))
+
+-- ODDITY. 01: "That regex is read with the place of the first hash as its start, so it needs one closing hash fewer; its 5 carries that place".
+-- The letter stands at r: the old reading does so; a later reading may choose otherwise.
+abbrev pub regexStart : ℕ → ℕ → ℕ
+regexStart r first = first
+
+abbrev pub closingHashes : ℕ → ℕ
+closingHashes m = m - 1
+
+-- after m hashes of what starts at o: a regex, a word, or neither. 01: "hashes and a word after it are passed whole"; "its 9 the other
+-- character's"
+unfoldable pub bodySkip : ℕ → ℕ → List ℕ → ℕ → Skip
+bodySkip o m [] p = Lost (refusal UnterminatedStringLiteral o) p 0
+bodySkip o m (c ∷ cs) p =
+    cond (eqb c 'dquote) (skipMore 1 (regexSkip o (closingHashes m) cs (p + widthOf c)))
+    (cond (isIdentifierStart c) (skipMore 1 (upTo (seek Word cs (p + widthOf c)))) (Lost (refusal ExpectedStringLiteral p) p 0))
+
+-- after the letter r: its hashes, and what stands after them
+abbrev pub hashPast : ℕ → List ℕ → Found → Skip
+hashPast o cs (At p m) = skipMore m (bodySkip o m (drop m cs) p)
+hashPast o cs (Nothing p m) = Lost (refusal UnterminatedStringLiteral o) p m
+
+abbrev pub hashSkip : ℕ → List ℕ → ℕ → Skip
+hashSkip o cs at = hashPast o cs (seek Hashes cs at)
+
+-- 01: "In code, every letter `r`, even inside a word, is tested for a following `#`"
+unfoldable pub rSkip : ℕ → List ℕ → ℕ → Skip
+rSkip r cs at = ifNext '# cs (hashSkip (regexStart r at) cs at) (Past at 0)
+
+-- 01: "Any closer answers any opener."
+unfoldable pub opens : ℕ → Bool
+opens c = cond (eqb c 'paren) true (cond (eqb c '[) true (eqb c 'brace))
+
+unfoldable pub closes : ℕ → Bool
+closes c = cond (eqb c 'unparen) true (cond (eqb c ']) true (eqb c 'unbrace))
+
+-- what the character c at the place at does, with b brackets open; the characters cs after it stand at next. 01: "`r"` there opens a string"
+unfoldable pub codeTurn : ℕ → ℕ → List ℕ → ℕ → ℕ → Turn
+codeTurn b c cs at next =
+    cond (eqb c 'dquote) (turnOf b (stringSkip at cs next))
+    (cond (eqb c 'quote) (turnOf b (quoteSkip at cs next))
+    (cond (eqb c 'r) (turnOf b (rSkip at cs next))
+    (cond (eqb c '/) (turnOf b (slashSkip at cs next))
+    (cond (opens c) (Pass next 0 (b + 1))
+    (cond (ltb 0 b) (cond (closes c) (Pass next 0 (b - 1)) (Pass next 0 b))
+    (cond (eqb c 'comma) Stop
+    (cond (eqb c 'semi) Stop
+    (cond (closes c) Stop (Pass next 0 b)))))))))
+
+-- 01: "`=>` at the end of text is 8; so is a bracket still open there, at the token's start"
+abbrev pub codeLast : ℕ → ℕ → ℕ → ℕ → Skip
+codeLast start b at n = cond (eqb b 0) (Past at n) (Lost (refusal UnterminatedCode start) at n)
+
+abbrev pub codeEnd : ℕ → List ℕ → ℕ → Skip
+codeEnd start cs at = walk codeTurn (codeLast start) 0 cs at

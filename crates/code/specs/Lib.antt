@@ -1,0 +1,5 @@
+pub mod Code
+pub mod Laws
+pub mod Near
+-- for speed alone
+pub mod Stops

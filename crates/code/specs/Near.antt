@@ -1,0 +1,100 @@
+-- A refusal in code stands from the start of what is refused up to the cursor.
+use Prim.Native.Nat.{ℕ, _+_, _-_, _≤_}
+use native.Mathlib.Omega.{arith}
+use mathlib.Core.List.{List, [], _∷_}
+use mathlib.Core.Path.{_≡_, refl}
+use lib.Dec.{eqb}
+use lib.ListN.{drop}
+use Rattle.utf8.specs.Chars.{'#}
+use Rattle.utf8.specs.Utf8.{widthOf}
+use Rattle.scan.specs.Far.{Far}
+use Rattle.scan.specs.Near.{Near, NearTurn, block-near, far-on, near-lost, near-lower, near-more, near-next, near-past, near-test, near-turns, regex-near, string-near, upto-near, walk-near, wide}
+use Rattle.scan.specs.Passes.{quote-past, seek-at, seek-none}
+use Rattle.scan.specs.Seek.{seek}
+use Rattle.scan.specs.declared.Found.{Found}
+use Rattle.scan.specs.declared.Found.the-variants.{At, Nothing}
+use Rattle.scan.specs.declared.Sought.the-variants.{Hashes, Newline, Quote, Word}
+use Rattle.code.specs.Code.{bodySkip, closingHashes, codeEnd, codeLast, codeTurn, escPast, escSkip, hashPast, hashSkip, oneSkip, quoteEnd, quoteSkip, rSkip, slashSkip}
+
+module _ (o : ℕ) where
+  slash-near : (cs : List ℕ) (at : ℕ) → o ≤ at → Near o (slashSkip o cs at)
+  unfolding slashSkip
+  slash-near [] at h = near-past o at 0 h
+  slash-near (c ∷ cs) at h =
+      let u = upto-near o (c ∷ cs) at h Newline in
+      let v = near-more o 1 _ (block-near o cs (at + widthOf c) (omega arith)) in
+      let w = near-past o at 0 h in
+      search near-test
+
+  end-near : (cs : List ℕ) (at m : ℕ) → o ≤ at → Near o (quoteEnd o cs at m)
+  unfolding quoteEnd
+  end-near [] at m h = near-lost o _ o at m (omega arith) h
+  end-near (c ∷ cs) at m h = near-past o at m h
+
+  one-near : (cs : List ℕ) (at : ℕ) → o ≤ at → Near o (oneSkip o cs at)
+  unfolding oneSkip
+  one-near [] at h = end-near [] at 1 h
+  one-near (c ∷ cs) at h =
+      let u = end-near cs (at + widthOf c) 2 (omega arith) in
+      let w = near-past o at 1 h in
+      search near-test
+
+  esc-near : (cs : List ℕ) (at : ℕ) → o ≤ at → Near o (escSkip o cs at)
+  unfolding escSkip
+  esc-near [] at h = near-lost o _ o at 1 (omega arith) h
+  esc-near (c ∷ cs) at h = go (seek Quote cs (at + widthOf c)) refl
+    where
+      go : (f : Found) → seek Quote cs (at + widthOf c) ≡ f → Near o (escPast o cs f)
+      go (At p m) e =
+          let g = far-on cs (at + widthOf c) (m + 1) (p + 1) (quote-past cs (at + widthOf c) p m e) in
+          end-near (drop (m + 1) cs) (p + 1) (m + 3) (omega arith)
+      go (Nothing p m) e =
+          let g = far-on cs (at + widthOf c) m p (seek-none cs (at + widthOf c) p m Quote e) in
+          near-lost o _ o p (m + 2) (omega arith) (omega arith)
+
+  quote-near : (cs : List ℕ) (at : ℕ) → o ≤ at → Near o (quoteSkip o cs at)
+  unfolding quoteSkip
+  quote-near [] at h = near-lost o _ o at 0 (omega arith) h
+  quote-near (c ∷ cs) at h =
+      let u = esc-near cs (at + widthOf c) (omega arith) in
+      let v = one-near cs (at + widthOf c) (omega arith) in
+      search near-test
+
+  body-near : (m : ℕ) (cs : List ℕ) (p : ℕ) → o ≤ p → Near o (bodySkip o m cs p)
+  unfolding bodySkip
+  body-near m [] p h = near-lost o _ o p 0 (omega arith) h
+  body-near m (c ∷ cs) p h =
+      let u = near-more o 1 _ (regex-near o cs (p + widthOf c) (omega arith) (closingHashes m)) in
+      let v = near-more o 1 _ (upto-near o cs (p + widthOf c) (omega arith) Word) in
+      let i : p ≤ p = omega arith in
+      search (near-test, near-lost)
+
+  hash-near : (cs : List ℕ) (at : ℕ) → o ≤ at → Near o (hashSkip o cs at)
+  hash-near cs at h = go (seek Hashes cs at) refl
+    where
+      go : (f : Found) → seek Hashes cs at ≡ f → Near o (hashPast o cs f)
+      go (At p m) e = let g = far-on cs at m p (seek-at cs at p m Hashes e) in near-more o m _ (body-near m (drop m cs) p (omega arith))
+      go (Nothing p m) e = let g = far-on cs at m p (seek-none cs at p m Hashes e) in near-lost o _ o p m (omega arith) (omega arith)
+
+r-near : (r : ℕ) (cs : List ℕ) (at : ℕ) → r ≤ at → Near r (rSkip r cs at)
+unfolding rSkip
+r-near r cs at h = near-next r '# cs _ _ (near-lower r at _ h (hash-near at cs at (omega arith))) (near-past r at 0 h)
+
+-- what a character of code refuses stands from that character on
+turn-near : (b c : ℕ) (cs : List ℕ) (at : ℕ) → NearTurn at (codeTurn b c cs at (at + widthOf c))
+unfolding codeTurn
+turn-near b c cs at =
+    let h : at ≤ at + widthOf c = omega arith in
+    let u = string-near at cs (at + widthOf c) h in
+    let v = quote-near at cs (at + widthOf c) h in
+    let w = r-near at cs (at + widthOf c) h in
+    let x = slash-near at cs (at + widthOf c) h in
+    search near-turns depth 14
+
+last-near : (o b at n : ℕ) → o ≤ at → Near o (codeLast o b at n)
+last-near o b at n h =
+    let i : o ≤ o = omega arith in
+    search (near-test, near-past, near-lost)
+
+pub code-near : (o : ℕ) (cs : List ℕ) (at : ℕ) → o ≤ at → Near o (codeEnd o cs at)
+code-near o cs at h = walk-near codeTurn (codeLast o) o turn-near (last-near o) 0 cs at h

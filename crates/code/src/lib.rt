@@ -1,0 +1,307 @@
+// Where action code ends: the Rust's `code`, and the readers that cover in it. An answer names a place, and the characters passed to
+// come there, as the ledger counts them.
+use record::Code;
+use record::Refusal;
+use scan::Found;
+use scan::Skip;
+use scan::Sought;
+use scan::Turn;
+use utf8::Sight;
+use utf8::signs;
+ghost use mathlib.Core.Path.{_≡_};
+ghost use Prim.Native.Nat.{_≤_, _+_, _-_, _<_};
+ghost use lib.ListN.{length, drop};
+ghost use Rattle.utf8.specs.Utf8.{chars};
+ghost use Rattle.record.specs.Records.{refusal};
+ghost use Rattle.scan.specs.declared.Skip.the-variants.{Lost};
+ghost use Rattle.scan.specs.Seek.{skipMore};
+ghost use Rattle.scan.specs.Passes.{passedOf};
+ghost use Rattle.scan.specs.Runs.{run};
+ghost use Rattle.code.specs.Stops.{classStop, codeStops};
+ghost use Rattle.code.specs.Code.{slashSkip, quoteEnd, oneSkip, escSkip, quoteSkip, regexStart, closingHashes, bodySkip, hashSkip, rSkip, opens, closes, codeTurn, codeEnd};
+
+// What starts at o is refused; the cursor stands at p, after m characters.
+fn lost(code: Code, o: usize, p: usize, m: usize) -> Skip
+    ensures { λ r. ⌜ r ≡ Lost (refusal code o) p m ⌝ }
+{
+    let r = Refusal {
+        code,
+        place: o as u64,
+    };
+    Skip::Lost(r, p, m)
+}
+
+// A cover's answer with n more characters passed before it.
+fn skip_more(n: usize, x: Skip) -> Skip
+    requires { ⌜ n + passedOf x < 18446744073709551616 ⌝ }
+    ensures { λ r. ⌜ r ≡ skipMore n x ⌝ }
+{
+    match x {
+        Skip::Past(p, m) => Skip::Past(p, n + m),
+        Skip::Lost(r, p, m) => Skip::Lost(r, p, n + m),
+    }
+}
+
+// After a slash at o: a comment, or nothing to pass.
+fn slash_skip(s: &[u8], at: usize, o: usize) -> Skip
+    ensures { λ r. ⌜ r ≡ slashSkip o (chars (drop at (now (s .entry)))) at ⌝ }
+{
+    match utf8::char_at(s, at) {
+        Sight::Char { code, width } => {
+            if code == signs::SLASH {
+                return scan::up_to(scan::seek_end(s, at, Sought::Newline));
+            }
+            if code == signs::STAR {
+                return skip_more(1, scan::block_skip(s, at + width, o));
+            }
+            Skip::Past(at, 0)
+        }
+        Sight::End => Skip::Past(at, 0),
+    }
+}
+
+// ODDITY: after a closing quote the text must go on (the Rust's `bump` answers nothing at the end of the text). The old reading
+// does so; a later reading may choose otherwise.
+fn quote_end(s: &[u8], at: usize, o: usize, m: usize) -> Skip
+    ensures { λ r. ⌜ r ≡ quoteEnd o (chars (drop at (now (s .entry)))) at m ⌝ }
+{
+    match utf8::char_at(s, at) {
+        Sight::Char { code: _, width: _ } => Skip::Past(at, m),
+        Sight::End => lost(Code::UnterminatedCharacterLiteral, o, at, m),
+    }
+}
+
+// After a quote at o and one character: a quote, if there is one.
+fn one_skip(s: &[u8], at: usize, o: usize) -> Skip
+    ensures { λ r. ⌜ r ≡ oneSkip o (chars (drop at (now (s .entry)))) at ⌝ }
+{
+    match utf8::char_at(s, at) {
+        Sight::Char { code, width } => {
+            if code == signs::QUOTE {
+                return quote_end(s, at + width, o, 2);
+            }
+            Skip::Past(at, 1)
+        }
+        Sight::End => quote_end(s, at, o, 1),
+    }
+}
+
+// After a quote at o and a backslash: a character, and all through the next quote.
+fn esc_skip(s: &[u8], at: usize, o: usize) -> Skip
+    ensures { λ r. ⌜ r ≡ escSkip o (chars (drop at (now (s .entry)))) at ⌝ }
+{
+    match utf8::char_at(s, at) {
+        Sight::Char { code: _, width } => match scan::seek_end(s, at + width, Sought::Quote) {
+            Found::At { place, passed } => quote_end(s, place + 1, o, passed + 3),
+            Found::Nothing { place, passed } => {
+                lost(Code::UnterminatedCharacterLiteral, o, place, passed + 2)
+            }
+        },
+        Sight::End => lost(Code::UnterminatedCharacterLiteral, o, at, 1),
+    }
+}
+
+// After a quote at o.
+fn take_lifetime_or_character_literal(s: &[u8], at: usize, o: usize) -> Skip
+    ensures { λ r. ⌜ r ≡ quoteSkip o (chars (drop at (now (s .entry)))) at ⌝ }
+{
+    match utf8::char_at(s, at) {
+        Sight::Char { code, width } => {
+            if code == signs::BACKSLASH {
+                return esc_skip(s, at + width, o);
+            }
+            one_skip(s, at + width, o)
+        }
+        Sight::End => lost(Code::UnterminatedCharacterLiteral, o, at, 0),
+    }
+}
+
+// ODDITY: a regex in code starts at its first hash, and not at its letter r. The old reading does so; a later reading may choose
+// otherwise.
+fn regex_start(r: usize, first: usize) -> usize
+    ensures { λ x. ⌜ x ≡ regexStart r first ⌝ }
+{
+    first
+}
+
+// ODDITY: so it needs one hash fewer to close than it has. The old reading does so; a later reading may choose otherwise.
+fn closing_hashes(m: usize) -> usize
+    ensures { λ r. ⌜ r ≡ closingHashes m ⌝ }
+{
+    if m == 0 {
+        return 0;
+    }
+    m - 1
+}
+
+// After m hashes of what starts at o: a regex, a word, or neither.
+fn body_skip(s: &[u8], at: usize, o: usize, m: usize) -> Skip
+    ensures { λ r. ⌜ r ≡ bodySkip o m (chars (drop at (now (s .entry)))) at ⌝ }
+{
+    match utf8::char_at(s, at) {
+        Sight::Char { code, width } => {
+            if code == signs::DOUBLE_QUOTE {
+                return skip_more(1, scan::regex_skip(s, at + width, o, closing_hashes(m)));
+            }
+            if unicode::is_identifier_start(code) {
+                return skip_more(1, scan::up_to(scan::seek_end(s, at + width, Sought::Word)));
+            }
+            lost(Code::ExpectedStringLiteral, at, at, 0)
+        }
+        Sight::End => lost(Code::UnterminatedStringLiteral, o, at, 0),
+    }
+}
+
+// Hashes from a place, of what starts at o, and what stands after them: the part of the Rust's `regex_literal` that follows the r.
+fn hash_skip(s: &[u8], at: usize, o: usize) -> Skip
+    ensures { λ r. ⌜ r ≡ hashSkip o (chars (drop at (now (s .entry)))) at ⌝ }
+{
+    match scan::seek_end(s, at, Sought::Hashes) {
+        Found::At { place, passed } => skip_more(passed, body_skip(s, place, o, passed)),
+        Found::Nothing { place, passed } => {
+            lost(Code::UnterminatedStringLiteral, o, place, passed)
+        }
+    }
+}
+
+// After a letter r at r.
+fn r_skip(s: &[u8], at: usize, r: usize) -> Skip
+    ensures { λ x. ⌜ x ≡ rSkip r (chars (drop at (now (s .entry)))) at ⌝ }
+{
+    if scan::is_next(s, at, signs::HASH) {
+        return hash_skip(s, at, regex_start(r, at));
+    }
+    Skip::Past(at, 0)
+}
+
+fn is_open(c: u32) -> bool
+    ensures { λ r. ⌜ r ≡ opens c ⌝ }
+{
+    if c == signs::LEFT_PAREN {
+        return true;
+    }
+    if c == signs::LEFT_BRACKET {
+        return true;
+    }
+    c == signs::LEFT_BRACE
+}
+
+fn is_close(c: u32) -> bool
+    ensures { λ r. ⌜ r ≡ closes c ⌝ }
+{
+    if c == signs::RIGHT_PAREN {
+        return true;
+    }
+    if c == signs::RIGHT_BRACKET {
+        return true;
+    }
+    c == signs::RIGHT_BRACE
+}
+
+// What the character c at a place does, with b brackets open. Any closer answers any opener.
+fn code_turn(s: &[u8], at: usize, next: usize, c: u32, b: usize) -> Turn
+    requires { ⌜ b < 9223372036854775808 ⌝ }
+    ensures { λ r. ⌜ r ≡ codeTurn b c (chars (drop next (now (s .entry)))) at next ⌝ }
+{
+    if c == signs::DOUBLE_QUOTE {
+        return scan::to_turn(b, scan::string_skip(s, next, at));
+    }
+    if c == signs::QUOTE {
+        return scan::to_turn(b, take_lifetime_or_character_literal(s, next, at));
+    }
+    if c == signs::LOWER_R {
+        return scan::to_turn(b, r_skip(s, next, at));
+    }
+    if c == signs::SLASH {
+        return scan::to_turn(b, slash_skip(s, next, at));
+    }
+    if is_open(c) {
+        return Turn::Pass(next, 0, b + 1);
+    }
+    if 0 < b {
+        if is_close(c) {
+            return Turn::Pass(next, 0, b - 1);
+        }
+        return Turn::Pass(next, 0, b);
+    }
+    if c == signs::COMMA {
+        return Turn::Stop;
+    }
+    if c == signs::SEMI {
+        return Turn::Stop;
+    }
+    if is_close(c) {
+        return Turn::Stop;
+    }
+    Turn::Pass(next, 0, b)
+}
+
+// Up to a byte that has no dot in the table: for speed alone. What a run is, is said by `run`.
+fn code_run<'a>(stops: &'a [u8], s: &'a [u8], from: usize) -> usize
+    requires { ⌜ length (now stops) ≡ 256 ⌝ }
+    ensures { λ r. ⌜ r ≡ from + run (classStop (now (stops .entry))) (drop from (now (s .entry))) ⌝ }
+{
+    let mut at = from;
+    while at < s.len() {
+        let i = index(s[at]);
+        if stops[i] != b'.' {
+            return at;
+        }
+        at += 1;
+    }
+    at
+}
+
+fn index(x: u8) -> usize
+    ensures { λ r. ⌜ (r ≡ x) × (r < 256) ⌝ }
+{
+    x as usize
+}
+
+// The loop of `code`, with a table of all bytes: a dot for each one that changes nothing.
+fn code_by<'a>(stops: &'a [u8], s: &'a [u8], at: usize, start: usize) -> Skip
+    requires { ⌜ now stops ≡ codeStops ⌝ }
+    ensures { λ r. ⌜ r ≡ codeEnd start (chars (drop at (now (s .entry)))) at ⌝ }
+{
+    let mut p = at;
+    let mut n: usize = 0;
+    let mut b: usize = 0;
+    loop {
+        let to = code_run(stops, s, p);
+        n = n + (to - p);
+        p = to;
+        match utf8::char_at(s, p) {
+            Sight::Char { code, width } => match code_turn(s, p, p + width, code, b) {
+                Turn::Stop => {
+                    return Skip::Past(p, n);
+                }
+                Turn::Fail(r, q, m) => {
+                    return Skip::Lost(r, q, n + 1 + m);
+                }
+                Turn::Pass(q, m, d) => {
+                    p = q;
+                    n = n + 1 + m;
+                    b = d;
+                }
+            },
+            Sight::End => {
+                if b == 0 {
+                    return Skip::Past(p, n);
+                }
+                return lost(Code::UnterminatedCode, start, p, n);
+            }
+        }
+    }
+}
+
+// The Rust's `code`: where the code from a place ends, for a token that starts at `start`. The table is lent once for the whole loop.
+pub fn code_end(s: &[u8], at: usize, start: usize) -> Skip
+    ensures { λ r. ⌜ r ≡ codeEnd start (chars (drop at (now (s .entry)))) at ⌝ }
+{
+    code_by(
+        b"..................................#....###..#..#...........#...............................#.#....................#........#.#..################################################################################################################################",
+        s,
+        at,
+        start,
+    )
+}

@@ -1,0 +1,67 @@
+-- `tok::gaps::comment_turn` meets its contract.
+use mathlib.Core.Path.{sym, ap, _∙_}
+use native.Mathlib.Omega.{arith}
+use borrow.Author.Needs.{needs}
+use Rattle.utf8.specs.Laws.{Seen, seen, ended}
+use Rattle.utf8.specs.Picks.{picks}
+use Rattle.scan.specs.Seek.{upTo}
+use Rattle.scan.specs.Walk.{turnOf}
+use Rattle.tok.specs.Steps.{comment-end, comment-on}
+use Rattle.tok.proofs.gaps.comment_turn.Statement.{statement}
+use Rattle.tok.proofs.gaps.comment_turn.Tie as tie
+
+here : (c : tie.After-known-told) → Seen (c .before .before .before .before .before .args .s .now) (c .before .before .before .before .before .args .at) (c .before .code .given .0 .0) (c .before .code .given .0 .1 .0)
+here c = seen _ _ _ _ (sym (c .before .before .before .char-at .ensures) ∙ c .before .code .given .1)
+
+char-at-requires : tie.Need-char-at-requires
+char-at-requires c κs = search needs
+
+enum-known-code : tie.Need-enum-known-code
+enum-known-code c = search needs
+
+seek-end-requires : tie.Need-seek-end-requires
+seek-end-requires c κs = search needs
+
+up-to-requires : tie.Need-up-to-requires
+up-to-requires c κs = search needs
+
+to-turn-requires : tie.Need-to-turn-requires
+to-turn-requires c κs = search needs
+
+returns : tie.Need-returns
+returns c = let h = c .to-turn .ensures ∙ ap (turnOf 0) (c .before .up-to .ensures ∙ ap upTo (c .before .before .seek-end .ensures)) in rw (comment-on _ (here (c .before .before .before .before))) (search picks)
+
+add-block-turn : tie.Need-add-block-turn
+add-block-turn c = omega (arith, here (c .before .before))
+
+block-turn-requires : tie.Need-block-turn-requires
+block-turn-requires c κs = search needs
+
+returns-2 : tie.Need-returns-2
+returns-2 c = rw (comment-on _ (here (c .before .before .before))) (search picks)
+
+enum-told : tie.Need-enum-told
+enum-told c = search needs
+
+returns-3 : tie.Need-returns-3
+returns-3 c = rw (comment-on (c .before .before .before .before .before .before .before .args .o) (here (c .before .before))) (search picks)
+
+returns-4 : tie.Need-returns-4
+returns-4 c = sym (comment-end _ (ended _ _ (sym (c .before .before .char-at .ensures) ∙ c .enum-told .given .1)))
+
+pub comment-turn-spec : {M : Type 1} → statement M
+comment-turn-spec =
+    tie.close
+    (tie.spec
+    char-at-requires
+    enum-known-code
+    seek-end-requires
+    up-to-requires
+    to-turn-requires
+    returns
+    add-block-turn
+    block-turn-requires
+    returns-2
+    enum-told
+    returns-3
+    returns-4)

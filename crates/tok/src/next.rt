@@ -1,0 +1,100 @@
+// One call: a gap and then a token, an error or the end. It knows nothing of shift, room or work limit.
+use crate::Call;
+use crate::What;
+use record::Kind;
+use scan::Skip;
+use utf8::Sight;
+use utf8::signs;
+ghost use mathlib.Core.Bool.{cond};
+ghost use mathlib.Core.List.{_∷_};
+ghost use mathlib.Core.Path.{_≡_};
+ghost use Rattle.unicode.specs.Identifier.{isIdentifierStart};
+ghost use Rattle.scan.specs.Until.{left};
+ghost use Rattle.tok.specs.Answers.{more};
+ghost use Rattle.tok.specs.Next.{starts, token, tokenOrEnd, next};
+ghost use Rattle.tok.specs.Symbols.{stray};
+ghost use Rattle.tok.specs.Words.{identifierish};
+
+// A character that no rule names, at o: it starts a word, or nothing.
+fn other(s: &[u8], c: u32, o: usize, next: usize) -> Call
+    ensures { λ r. ⌜ r ≡ cond (isIdentifierStart c) (more 1 (identifierish (left (now (s .entry)) o) o (left (now (s .entry)) next) next)) (stray o) ⌝ }
+{
+    if unicode::is_identifier_start(c) {
+        return crate::more(1, crate::words::identifierish(s, o, next));
+    }
+    crate::symbols::stray(o)
+}
+
+// By a first character c at o that is no hash and no symbol of one character; the text goes on at next.
+fn starts(s: &[u8], c: u32, o: usize, next: usize) -> Call
+    requires { ⌜ left (now s) o ≡ c ∷ left (now s) next ⌝ }
+    ensures { λ r. ⌜ r ≡ starts c (left (now (s .entry)) next) o next ⌝ }
+{
+    match c {
+        signs::BANG => crate::more(1, crate::symbols::bang(s, o, next)),
+        signs::COLON => crate::more(1, crate::symbols::colon(s, o, next)),
+        signs::DOT => crate::more(1, crate::symbols::dot(s, o, next)),
+        signs::EQUALS => crate::more(1, crate::symbols::equals(s, o, next)),
+        signs::AT => crate::more(1, crate::symbols::look(s, o, next)),
+        signs::TILDE => crate::more(1, crate::symbols::tilde(s, o, next)),
+        signs::BACKTICK => crate::more(1, crate::quotes::escape(s, o, next)),
+        signs::QUOTE => crate::more(1, crate::quotes::lifetimeish(s, o, next)),
+        signs::DOUBLE_QUOTE => crate::more(1, crate::quotes::string_literal(s, o, next)),
+        signs::SLASH => crate::more(1, crate::symbols::half(o, next)),
+        signs::MINUS => crate::more(1, crate::symbols::minus(s, o, next)),
+        signs::LOWER_R => crate::more(1, crate::regex::r_word(s, o, next)),
+        _ => other(s, c, o, next),
+    }
+}
+
+// The token that starts with the character c at o, after which the text goes on at next.
+fn token(s: &[u8], c: u32, o: usize, next: usize) -> Call
+    requires { ⌜ left (now s) o ≡ c ∷ left (now s) next ⌝ }
+    ensures { λ r. ⌜ r ≡ token c (left (now (s .entry)) next) o next ⌝ }
+{
+    match c {
+        signs::HASH => crate::more(1, crate::attribute::hash(s, o, next)),
+        signs::AMPERSAND => crate::plain(Kind::Ampersand, o, next, 1),
+        signs::COMMA => crate::plain(Kind::Comma, o, next, 1),
+        signs::GREATER_THAN => crate::plain(Kind::GreaterThan, o, next, 1),
+        signs::LEFT_BRACE => crate::plain(Kind::LeftBrace, o, next, 1),
+        signs::LEFT_BRACKET => crate::plain(Kind::LeftBracket, o, next, 1),
+        signs::LEFT_PAREN => crate::plain(Kind::LeftParen, o, next, 1),
+        signs::LESS_THAN => crate::plain(Kind::LessThan, o, next, 1),
+        signs::PLUS => crate::plain(Kind::Plus, o, next, 1),
+        signs::QUESTION => crate::plain(Kind::Question, o, next, 1),
+        signs::RIGHT_BRACE => crate::plain(Kind::RightBrace, o, next, 1),
+        signs::RIGHT_BRACKET => crate::plain(Kind::RightBracket, o, next, 1),
+        signs::RIGHT_PAREN => crate::plain(Kind::RightParen, o, next, 1),
+        signs::SEMI => crate::plain(Kind::Semi, o, next, 1),
+        signs::STAR => crate::plain(Kind::Star, o, next, 1),
+        _ => starts(s, c, o, next),
+    }
+}
+
+fn token_or_end(s: &[u8], o: usize) -> Call
+    ensures { λ r. ⌜ r ≡ tokenOrEnd (left (now (s .entry)) o) o ⌝ }
+{
+    match utf8::char_at(s, o) {
+        Sight::Char { code, width } => token(s, code, o, o + width),
+        Sight::End => Call {
+            what: What::End,
+            at: o as u64,
+            advances: 0,
+        },
+    }
+}
+
+// One call from a place.
+pub fn next_unshifted(s: &[u8], at: usize) -> Call
+    ensures { λ r. ⌜ r ≡ next (left (now (s .entry)) at) at ⌝ }
+{
+    match crate::gaps::gap(s, at) {
+        Skip::Past(p, m) => crate::more(m, token_or_end(s, p)),
+        Skip::Lost(r, p, m) => Call {
+            what: What::Error(r),
+            at: p as u64,
+            advances: m as u64,
+        },
+    }
+}
