@@ -1,0 +1,45 @@
+-- The checks before any reading, for the public single call and for a whole run.
+use Prim.Native.Nat.{ℕ}
+use mathlib.Core.Bool.{cond}
+use mathlib.Core.List.{List}
+use lib.ListN.{length}
+use Rattle.utf8.specs.Utf8.{boundary}
+use Rattle.record.specs.Checks.{checks}
+use Rattle.record.specs.Records.{refusal}
+use Rattle.record.specs.declared.Checked.{Checked}
+use Rattle.record.specs.declared.Checked.the-variants.{Passed, Refused as Stopped}
+use Rattle.record.specs.declared.Code.the-variants.{BadRecord}
+use Rattle.tok.specs.Run.{Run, run, step, stopped}
+use Rattle.tok.specs.declared.Outcome.the-variants.{Refused}
+use Rattle.tok.specs.declared.Stepped.{Stepped}
+use Rattle.tok.specs.declared.Tokenizer.{Tokenizer}
+use Rattle.tok.specs.declared.What.the-variants.{Error}
+use Rattle.run.specs.declared.Ran.{Ran}
+
+-- 01: "A public single call repeats the checks, then answers 20, nothing changed, for a cursor off its text's boundaries."
+abbrev pub stepIf : Checked → List ℕ → ℕ → ℕ → Tokenizer → Stepped
+stepIf Passed s shift limit t = cond (boundary s (t .at)) (step s shift limit t) (record { what = Error (refusal BadRecord 0); next = t })
+stepIf (Stopped r) s shift limit t = record { what = Error r; next = t }
+
+unfoldable pub nextToken : List ℕ → ℕ → ℕ → Tokenizer → Stepped
+nextToken s shift limit t = stepIf (checks s shift) s shift limit t
+
+-- a whole run, with the same two checks before it
+abbrev pub runIf : Checked → List ℕ → ℕ → ℕ → ℕ → Tokenizer → Run
+runIf Passed s shift limit room t = cond (boundary s (t .at)) (run s shift limit room t) (stopped (Refused (refusal BadRecord 0)) t)
+runIf (Stopped r) s shift limit room t = stopped (Refused r) t
+
+unfoldable pub wholeRun : List ℕ → ℕ → ℕ → ℕ → Tokenizer → Run
+wholeRun s shift limit room t = runIf (checks s shift) s shift limit room t
+
+-- 01: "11 to 13 report count 0"; every other answer reports the tokenizer's
+abbrev pub countIf : Checked → ℕ → ℕ
+countIf Passed n = n
+countIf (Stopped r) n = 0
+
+-- what a run reports: how many records it stored, how it stopped, the advances, and the tokenizer afterwards
+abbrev pub report : Checked → Run → Ran
+report c r = record { stored = length (r .tokens); how = r .how; advances = countIf c (r .state .count); state = r .state }
+
+unfoldable pub ranOf : List ℕ → ℕ → ℕ → ℕ → Tokenizer → Ran
+ranOf s shift limit room t = report (checks s shift) (wholeRun s shift limit room t)

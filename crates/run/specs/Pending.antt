@@ -1,0 +1,52 @@
+-- A run, turn by turn, as the code takes it: a token that is read and not stored yet, or the end of the run.
+use Prim.Native.Nat.{ℕ, _+_}
+use mathlib.Core.Bool.{true, false, cond}
+use mathlib.Core.List.{List}
+use lib.Dec.{ltb}
+use Rattle.utf8.specs.Utf8.{boundary}
+use Rattle.record.specs.Checks.{checks}
+use Rattle.record.specs.Records.{refusal, tokenOf}
+use Rattle.record.specs.declared.Checked.{Checked}
+use Rattle.record.specs.declared.Checked.the-variants.{Passed, Refused as Stopped}
+use Rattle.record.specs.declared.Code.the-variants.{BadRecord, NoRoom}
+use Rattle.record.specs.declared.Kind.the-variants.{Enum}
+use Rattle.record.specs.declared.Token.{Token}
+use Rattle.tok.specs.Run.{step}
+use Rattle.tok.specs.declared.Outcome.{Outcome}
+use Rattle.tok.specs.declared.Outcome.the-variants.{Ended, Refused, Running}
+use Rattle.tok.specs.declared.Stepped.{Stepped}
+use Rattle.tok.specs.declared.Tokenizer.{Tokenizer}
+use Rattle.tok.specs.declared.What.{What}
+use Rattle.tok.specs.declared.What.the-variants.{End, Error, Got}
+use Rattle.run.specs.Checked.{countIf}
+use Rattle.run.specs.declared.Pending.{Pending}
+
+abbrev pub noToken : Token
+noToken = tokenOf Enum 0 0 0 0
+
+-- the run stops, with n tokens stored, at the tokenizer t
+abbrev pub halted : ℕ → Outcome → ℕ → Tokenizer → Pending
+halted n how count t = record { going = false; token = noToken; ran = record { stored = n; how = how; advances = count; state = t } }
+
+-- a token is to be stored after n others; then the tokenizer is t
+abbrev pub goes : ℕ → Token → Tokenizer → Pending
+goes n x t = record { going = true; token = x; ran = record { stored = n; how = Running; advances = t .count; state = t } }
+
+-- the tokenizer t before the call, and u after it
+abbrev pub pendBy : What → ℕ → ℕ → Tokenizer → Tokenizer → Pending
+pendBy (Got x) room n t u = cond (ltb n room) (goes n x u) (halted n (Refused (refusal NoRoom (x .start))) (t .count) t)
+pendBy (Error r) room n t u = halted n (Refused r) (u .count) u
+pendBy End room n t u = halted n Ended (u .count) u
+
+unfoldable pub pendOf : List ℕ → ℕ → ℕ → ℕ → ℕ → Tokenizer → Pending
+pendOf s shift limit room n t = pendBy (step s shift limit t .what) room n t (step s shift limit t .next)
+
+abbrev pub beginIf : Checked → List ℕ → ℕ → ℕ → ℕ → Tokenizer → Pending
+beginIf Passed s shift limit room t = cond (boundary s (t .at)) (pendOf s shift limit room 0 t) (halted 0 (Refused (refusal BadRecord 0)) (t .count) t)
+beginIf (Stopped r) s shift limit room t = halted 0 (Refused r) 0 t
+
+unfoldable pub beginOf : List ℕ → ℕ → ℕ → ℕ → Tokenizer → Pending
+beginOf s shift limit room t = beginIf (checks s shift) s shift limit room t
+
+unfoldable pub advanceOf : List ℕ → ℕ → ℕ → ℕ → Pending → Pending
+advanceOf s shift limit room p = pendOf s shift limit room (p .ran .stored + 1) (p .ran .state)
