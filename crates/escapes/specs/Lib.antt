@@ -1,0 +1,10 @@
+pub mod Escapes
+pub mod Characters
+pub mod Answers
+pub mod Passes
+pub mod Laws
+pub mod Formed
+pub mod Spelled
+pub mod Laid
+pub mod Theorems
+pub mod Examples
