@@ -1,0 +1,32 @@
+-- `ltk::number4` meets its contract.
+use borrow.Author.Needs.{needs}
+use native.Mathlib.Omega.{arith}
+use Rattle.ltk.proofs.Numbers.{number-4}
+use Rattle.ltk.proofs.number4.Statement.{statement}
+use Rattle.ltk.proofs.number4.Tie as tie
+use Rattle.ltk.proofs.number4.Reads as reads
+use Rattle.ltk.proofs.number4.Lts as lts
+use Rattle.ltk.proofs.number2.Reads as number2-reads
+
+number2-requires : tie.Need-number2-requires
+number2-requires c κs = search needs
+
+add-number2 : tie.Need-add-number2
+add-number2 c = search needs
+
+number2-requires-2 : tie.Need-number2-requires-2
+number2-requires-2 c κs = search needs
+
+mul-result : tie.Need-mul-result
+mul-result c = search needs
+
+add-result : tie.Need-add-result
+add-result c = search needs
+
+returns : tie.Need-returns
+returns c = let a = c .before .before .before .args in (omega (arith, number-4 (a .s .now) (a .p)), omega arith)
+
+pub number4-spec : {M : Type 1} → statement M
+number4-spec =
+    tie.close
+    (tie.spec number2-requires add-number2 number2-requires-2 mul-result add-result returns)

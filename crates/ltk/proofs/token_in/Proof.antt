@@ -1,0 +1,16 @@
+-- `ltk::token_in` meets its contract.
+use borrow.Author.Needs.{needs}
+use Rattle.ltk.proofs.token_in.Statement.{statement}
+use Rattle.ltk.proofs.token_in.Tie as tie
+use Rattle.ltk.proofs.token_in.Reads as reads
+use Rattle.ltk.proofs.token_in.Lts as lts
+use Rattle.ltk.proofs.kind_in.Reads as kind-in-reads
+
+kind-in-requires : tie.Need-kind-in-requires
+kind-in-requires c κs = search needs
+
+returns : tie.Need-returns
+returns c = rw (c .kind-in .ensures)
+
+pub token-in-spec : {M : Type 1} → statement M
+token-in-spec = tie.close (tie.spec kind-in-requires returns)
