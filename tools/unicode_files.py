@@ -27,7 +27,7 @@ def with_property(lines, name):
 
 
 def finish(made):
-    """Writes each file of MADE, by its path from the root; with --check says which differs instead."""
+    """Writes each file of MADE, by its path from the root; with --check says instead which differs, or that none does."""
     differs = False
     for path, text in made.items():
         whole = os.path.join(ROOT, path)
@@ -44,6 +44,8 @@ def finish(made):
             os.makedirs(os.path.dirname(whole), exist_ok=True)
             with open(whole, "w", encoding="utf-8", newline="\n") as file:
                 file.write(text)
+    if "--check" in sys.argv[1:] and not differs:
+        print(f"{len(made)} files are what {os.path.basename(sys.argv[0])} writes")
     sys.exit(1 if differs else 0)
 
 

@@ -1,7 +1,9 @@
+-- what a reader must believe
 pub mod Layout
 pub mod Ltk
 pub mod Answers
-pub mod Steps
-pub mod Laws
 pub mod Faithful
 pub mod Examples
+-- the laws that lead there, and those that the code cites
+pub mod Steps
+pub mod Laws

@@ -1,5 +1,7 @@
+-- what a reader must believe
 pub mod Numbers
 pub mod Records
 pub mod Checks
+-- the laws that lead there, and those that the code cites
 pub mod Allowed
 pub mod Stores

@@ -273,7 +273,7 @@ pub fn kind_of(n: u8) -> Known
     Known::Kind(k)
 }
 
-// A token's record. It is made here and nowhere else.
+// A token's record. The reading makes it here and nowhere else.
 pub fn token_of(kind: Kind, start: u64, end: u64, from: u64, to: u64) -> Token
     ensures { λ r. ⌜ r ≡ tokenOf kind start end from to ⌝ }
 {

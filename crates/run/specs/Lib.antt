@@ -2,8 +2,8 @@
 pub mod Checked
 pub mod Payload
 pub mod Numbers
--- a run as the code takes it, and its laws
+pub mod TakenUp
+-- the laws that lead there, and those that the code cites
 pub mod Pending
 pub mod Room
 pub mod Steps
-pub mod TakenUp

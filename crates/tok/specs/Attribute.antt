@@ -22,6 +22,7 @@ use Rattle.tok.specs.declared.Attempt.the-variants.{Closed, Failed}
 use Rattle.tok.specs.declared.Call.{Call}
 use Rattle.tok.specs.declared.What.the-variants.{Got}
 
+-- 01: "Attribute: `#![` to the balancing `]`, strings inside read whole. A newline outside a string, the end, or an unclosed string fails it."
 -- with b brackets open: the balancing bracket and a newline stop it; strings are read whole
 unfoldable pub attributeTurn : ℕ → ℕ → List ℕ → ℕ → ℕ → Turn
 attributeTurn b c cs at next =
@@ -54,7 +55,8 @@ unfoldable pub attempt : List ℕ → ℕ → Attempt
 attempt [] at = Failed 0
 attempt (c ∷ cs) at = cond (eqb c '!) (attemptMore 1 (attemptBracket cs (at + widthOf c))) (Failed 1)
 
--- ODDITY: after an attribute one further character is passed, if there is one, and belongs to no token
+-- ODDITY. 01: "After success one further character is passed and belongs to no token, if there is one."
+-- after an attribute one further character is passed, if there is one, and belongs to no token
 unfoldable pub dropped : List ℕ → ℕ
 dropped [] = 0
 dropped (c ∷ cs) = 1
@@ -63,7 +65,8 @@ dropped (c ∷ cs) = 1
 unfoldable pub attributeToken : ℕ → List ℕ → ℕ → Call
 attributeToken o cs p = record { what = Got (tokenOf ShebangAttribute o p o p); at = after (dropped cs) cs p; advances = dropped cs }
 
--- after a hash at o: the advances of a failed attempt stay counted
+-- 01: "if it fails, the cursor returns to just after `#`, `Hash` is delivered, and the attempt's advances stay counted"; "Codes of a failed
+-- attempt, 7 too, never show": an attempt carries none. After a hash at o
 abbrev pub hashBy : ℕ → List ℕ → ℕ → Attempt → Call
 hashBy o cs at (Closed p m) = more m (attributeToken o (drop m cs) p)
 hashBy o cs at (Failed m) = plain Hash o at m

@@ -23,15 +23,19 @@ abbrev pub quoted : Kind → Code → ℕ → ℕ → Found → Call
 quoted kind code o at (At p m) = deliver kind o at p (p + 1) (m + 1)
 quoted kind code o at (Nothing p m) = refuse code o p m
 
+-- 01: "Backticks hold an escape, no escaping inside."
 unfoldable pub escape : ℕ → List ℕ → ℕ → Call
 escape o cs at = quoted Escape UnterminatedEscape o at (seek Backtick cs at)
 
+-- 01: "Strings end at the first `"` that isn't escaped by a backslash; 5 exactly if there is none."
 unfoldable pub stringLiteral : ℕ → List ℕ → ℕ → Call
 stringLiteral o cs at = quoted StringLiteral UnterminatedStringLiteral o at (stringEnd 'dquote cs at)
 
+-- 01: "Otherwise a literal to the next unescaped `'`."
 unfoldable pub charLiteral : ℕ → List ℕ → ℕ → Call
 charLiteral o cs at = quoted CharLiteral UnterminatedCharacterLiteral o at (stringEnd 'quote cs at)
 
+-- 01: "`'` then identifier start: the word; a `'` directly after makes it `CharLiteral`, else `Lifetime`, whose payload includes the quote."
 -- a word after a quote: a quote directly after it makes a literal; else a lifetime, whose payload includes the quote
 abbrev pub lifetimeBy : ℕ → List ℕ → ℕ → Found → Call
 lifetimeBy o cs at (At p m) = ifNext 'quote (drop m cs) (deliver CharLiteral o at p (p + 1) (m + 1)) (deliver Lifetime o o p p m)

@@ -31,6 +31,7 @@ doneBy (Got t) = Running
 doneBy (Error r) = Refused r
 doneBy End = Ended
 
+-- 01: "15 is given exactly when finishing the next call (token, error or end) would take total advances above the work limit."
 -- 15 exactly when finishing the call would take the total advances above the work limit; the state is then as before the call
 abbrev pub stepBy : ℕ → ℕ → Tokenizer → Call → Stepped
 stepBy shift limit t x =
@@ -41,7 +42,7 @@ stepBy shift limit t x =
       next = record { at = x .at; count = t .count + x .advances; done = doneBy (shiftWhat shift (x .what)) };
     })
 
--- once a run has answered an error or the end, further calls repeat it
+-- 01: "Once a run has answered an error or the end, further calls repeat it with the same count and place"
 abbrev pub stepIn : Outcome → List ℕ → ℕ → ℕ → Tokenizer → Stepped
 stepIn Running s shift limit t = stepBy shift limit t (next (chars (drop (t .at) s)) (t .at))
 stepIn Ended s shift limit t = record { what = End; next = t }

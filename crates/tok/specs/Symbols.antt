@@ -25,6 +25,7 @@ unfoldable pub single : List (ℕ × Kind) → ℕ → ℕ → ℕ → Call → 
 single [] c o next other = other
 single (k ∷ ks) c o next other = cond (eqb c (k .0)) (plain (k .1) o next 1) (single ks c o next other)
 
+-- 01: "Lone `.`, `~`, `-`, `/`, `@` are `UnrecognizedToken` at that character."
 -- half a symbol, and a character that starts nothing: both are refused at their first character
 unfoldable pub half : ℕ → ℕ → Call
 half o at = refuse UnrecognizedToken o at 0
@@ -50,7 +51,7 @@ tilde o cs at = ifNext '~ cs (plain TildeTilde o (at + 1) 1) (half o at)
 unfoldable pub minus : ℕ → List ℕ → ℕ → Call
 minus o cs at = ifNext '> cs (plain MinusGreaterThan o (at + 1) 1) (half o at)
 
--- after =>@
+-- after =>@. 01: "`=>@L` and `=>@R` are tokens, `=>@` otherwise is 1 at its `=`."
 unfoldable pub arrowLook : ℕ → List ℕ → ℕ → Call
 arrowLook o cs at =
     ifNext 'L cs (plain EqualsGreaterThanLookahead o (at + 1) 1) (ifNext 'R cs (plain EqualsGreaterThanLookbehind o (at + 1) 1) (half o at))
@@ -58,7 +59,7 @@ arrowLook o cs at =
 unfoldable pub arrowCode : Kind → ℕ → List ℕ → ℕ → Call
 arrowCode kind o cs at = codeToken kind o at (codeEnd o cs at)
 
--- after =>
+-- after =>. 01: "`=>` at the end of text is 8"
 unfoldable pub rightArrow : ℕ → List ℕ → ℕ → Call
 rightArrow o [] at = refuse UnterminatedCode o at 0
 rightArrow o (c ∷ cs) at =

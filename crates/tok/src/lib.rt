@@ -61,17 +61,11 @@ pub fn start() -> Tokenizer
     }
 }
 
-// A token that ends at the cursor p, after n advances. A token record is made here and nowhere else.
+// A token that ends at the cursor p, after n advances.
 fn deliver(kind: Kind, o: usize, from: usize, to: usize, p: usize, n: usize) -> Call
     ensures { λ r. ⌜ r ≡ deliver kind o from to p n ⌝ }
 {
-    let t = Token {
-        kind,
-        start: o as u64,
-        end: p as u64,
-        payload_start: from as u64,
-        payload_end: to as u64,
-    };
+    let t = record::token_of(kind, o as u64, p as u64, from as u64, to as u64);
     Call {
         what: What::Got(t),
         at: p as u64,

@@ -1,11 +1,8 @@
 // Unicode's own files over every code point: what the lines in data/ say, and what the three functions of `unicode` answer.
-mod line;
-mod tally;
-
 use libc::STDOUT_FILENO;
-use line::Property;
-use tally::END;
-use tally::Tally;
+use property::line::Property;
+use tally::tally::END;
+use tally::tally::Tally;
 ghost use mathlib.Core.Path.{_≡_};
 ghost use lib.ListN.{length};
 
@@ -25,7 +22,7 @@ fn room() -> [u8; 262144]
 }
 
 // The words of a property's line: before the file's count, before the function's, and after it.
-fn property(p: Property) {
+fn before(p: Property) {
     match p {
         Property::Start => text(b"XID_Start "),
         Property::Continue => text(b"XID_Continue "),
@@ -59,7 +56,7 @@ fn says(yes: bool) {
 
 // Prints a tally, and answers whether nothing is wrong.
 fn report(t: Tally, p: Property) -> bool {
-    property(p);
+    before(p);
     decimal(t.told as u64);
     function(p);
     decimal(t.yes as u64);
@@ -73,7 +70,7 @@ fn report(t: Tally, p: Property) -> bool {
     if t.first != END {
         text(b"first difference: U+");
         io::print_hex(STDOUT_FILENO, t.first as u64, 4);
-        says(tally::asks(p, t.first));
+        says(tally::tally::asks(p, t.first));
         return false;
     }
     true
@@ -88,7 +85,7 @@ fn compare(path: &[u8], p: Property) -> bool {
     let mut buf = room();
     let n = io::read_full(fd, &mut buf);
     libc::close(fd);
-    report(tally::tally_of(&buf[..n], p), p)
+    report(tally::tally::tally_of(&buf[..n], p), p)
 }
 
 fn main() {

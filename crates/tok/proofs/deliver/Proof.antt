@@ -1,14 +1,17 @@
 -- `tok::deliver` meets its contract.
-use mathlib.Core.Path.{refl}
+use borrow.Author.Needs.{needs}
 use Rattle.tok.specs.Answers.{deliver}
 use Rattle.tok.proofs.deliver.Statement.{statement}
 use Rattle.tok.proofs.deliver.Tie as tie
 use Rattle.tok.proofs.deliver.Reads as reads
 use Rattle.tok.proofs.deliver.Lts as lts
 
+token-of-requires : tie.Need-token-of-requires
+token-of-requires c κs = search needs
+
 returns : tie.Need-returns
 unfolding deliver
-returns c = refl
+returns c = rw (c .token-of .ensures)
 
 pub deliver-spec : {M : Type 1} → statement M
-deliver-spec = tie.close (tie.spec returns)
+deliver-spec = tie.close (tie.spec token-of-requires returns)

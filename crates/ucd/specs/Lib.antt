@@ -1,4 +1,0 @@
-pub mod Hex
-pub mod Spans
-pub mod Tallies
-pub mod Laws
