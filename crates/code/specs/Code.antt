@@ -11,7 +11,7 @@ use Rattle.unicode.specs.Identifier.{isIdentifierStart}
 use Rattle.record.specs.Records.{refusal}
 use Rattle.record.specs.declared.Code.the-variants.{ExpectedStringLiteral, UnterminatedCharacterLiteral, UnterminatedCode, UnterminatedStringLiteral}
 use Rattle.scan.specs.IfNext.{ifNext}
-use Rattle.scan.specs.Seek.{blockSkip, lineSkip, regexSkip, seek, skipMore, stringSkip, upTo}
+use Rattle.scan.specs.Seek.{blockComment, lineSkip, regexSkip, seek, skipMore, stringSkip, upTo}
 use Rattle.scan.specs.Walk.{turnOf, walk}
 use Rattle.scan.specs.declared.Found.{Found}
 use Rattle.scan.specs.declared.Found.the-variants.{At, Nothing}
@@ -25,7 +25,7 @@ use Rattle.scan.specs.declared.Turn.the-variants.{Pass, Stop}
 unfoldable pub slashSkip : ℕ → List ℕ → ℕ → Skip
 slashSkip o [] at = Past at 0
 slashSkip o (c ∷ cs) at =
-    cond (eqb c '/) (lineSkip (c ∷ cs) at) (cond (eqb c '*) (skipMore 1 (blockSkip o cs (at + widthOf c))) (Past at 0))
+    cond (eqb c '/) (lineSkip (c ∷ cs) at) (cond (eqb c '*) (skipMore 1 (blockComment o cs (at + widthOf c))) (Past at 0))
 
 -- ODDITY. 01: "6 at the opening quote exactly if the text ends before this is done or straight after it". So a quoted literal is refused where
 -- the text ends straight after it: the old reading does so; a later reading may choose otherwise.

@@ -13,7 +13,7 @@ use Rattle.record.specs.declared.Refusal.{Refusal}
 use Rattle.scan.specs.Far.{Far, far-one, one-far}
 use Rattle.scan.specs.Passes.{Balance, From, Good, Sound, balances, block-sound, from-lost, from-past, from-test, goods, quote-past, regex-sound, seek-at, seek-none, sound-here, sound-lost, sound-more, sound-next, sound-one, sound-test, upto-sound, walk-sound}
 use Rattle.scan.specs.Readers.{regexEnd}
-use Rattle.scan.specs.Seek.{blockSkip, lineSkip, seek, skipMore}
+use Rattle.scan.specs.Seek.{blockComment, lineSkip, seek, skipMore}
 use Rattle.scan.specs.Until.{left}
 use Rattle.scan.specs.declared.Found.{Found}
 use Rattle.scan.specs.declared.Found.the-variants.{At, Nothing}
@@ -109,7 +109,7 @@ code-fail b c cs at next r p m e = rw e at ((code-good b c cs at next) .is)
 -- what stands after a slash, by the code's own sight of it
 module _ (o : ℕ) {s : List ℕ} {at : ℕ} where
   pub slash-on : {k w : ℕ} → Seen s at k w
-      → slashSkip o (left s at) at ≡ cond (eqb k '/) (lineSkip (left s at) at) (cond (eqb k '*) (skipMore 1 (blockSkip o (left s (at + w)) (at + w))) (Past at 0))
+      → slashSkip o (left s at) at ≡ cond (eqb k '/) (lineSkip (left s at) at) (cond (eqb k '*) (skipMore 1 (blockComment o (left s (at + w)) (at + w))) (Past at 0))
   unfolding slashSkip
   slash-on h = rw (h .next, h .width)
 

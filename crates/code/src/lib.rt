@@ -49,10 +49,10 @@ fn slash_skip(s: &[u8], at: usize, o: usize) -> Skip
     match utf8::char_at(s, at) {
         Sight::Char { code, width } => {
             if code == signs::SLASH {
-                return scan::up_to(scan::seek_end(s, at, Sought::Newline));
+                return scan::up_to(scan::take_until(s, at, Sought::Newline));
             }
             if code == signs::STAR {
-                return skip_more(1, scan::block_skip(s, at + width, o));
+                return skip_more(1, scan::block_comment(s, at + width, o));
             }
             Skip::Past(at, 0)
         }
@@ -91,7 +91,7 @@ fn esc_skip(s: &[u8], at: usize, o: usize) -> Skip
     ensures { λ r. ⌜ r ≡ escSkip o (chars (drop at (now (s .entry)))) at ⌝ }
 {
     match utf8::char_at(s, at) {
-        Sight::Char { code: _, width } => match scan::seek_end(s, at + width, Sought::Quote) {
+        Sight::Char { code: _, width } => match scan::take_until(s, at + width, Sought::Quote) {
             Found::At { place, passed } => quote_end(s, place + 1, o, passed + 3),
             Found::Nothing { place, passed } => {
                 lost(Code::UnterminatedCharacterLiteral, o, place, passed + 2)
@@ -144,7 +144,7 @@ fn body_skip(s: &[u8], at: usize, o: usize, m: usize) -> Skip
                 return skip_more(1, scan::regex_skip(s, at + width, o, closing_hashes(m)));
             }
             if unicode::is_identifier_start(code) {
-                return skip_more(1, scan::up_to(scan::seek_end(s, at + width, Sought::Word)));
+                return skip_more(1, scan::up_to(scan::word(s, at + width)));
             }
             lost(Code::ExpectedStringLiteral, at, at, 0)
         }
@@ -156,7 +156,7 @@ fn body_skip(s: &[u8], at: usize, o: usize, m: usize) -> Skip
 fn hash_skip(s: &[u8], at: usize, o: usize) -> Skip
     ensures { λ r. ⌜ r ≡ hashSkip o (chars (drop at (now (s .entry)))) at ⌝ }
 {
-    match scan::seek_end(s, at, Sought::Hashes) {
+    match scan::take_until(s, at, Sought::Hashes) {
         Found::At { place, passed } => skip_more(passed, body_skip(s, place, o, passed)),
         Found::Nothing { place, passed } => {
             lost(Code::UnterminatedStringLiteral, o, place, passed)
@@ -295,7 +295,7 @@ fn code_by<'a>(stops: &'a [u8], s: &'a [u8], at: usize, start: usize) -> Skip
 }
 
 // The Rust's `code`: where the code from a place ends, for a token that starts at `start`. The table is lent once for the whole loop.
-pub fn code_end(s: &[u8], at: usize, start: usize) -> Skip
+pub fn code(s: &[u8], at: usize, start: usize) -> Skip
     ensures { λ r. ⌜ r ≡ codeEnd start (chars (drop at (now (s .entry)))) at ⌝ }
 {
     code_by(

@@ -6,8 +6,8 @@ use names::CODE_ENDS;
 use names::CODE_NAMES;
 use names::KIND_ENDS;
 use names::KIND_NAMES;
+use reading::Outcome;
 use record::Code;
-use tok::Outcome;
 
 const LIMIT: usize = 32768;
 

@@ -10,8 +10,8 @@ use Rattle.record.specs.Numbers.{kindNumber}
 use Rattle.record.specs.Records.{over}
 use Rattle.record.specs.Stores.{sets-append, sets-over}
 use Rattle.record.specs.declared.Token.{Token}
-use Rattle.tok.specs.Run.{Run}
-use Rattle.tok.specs.declared.Tokenizer.{Tokenizer}
+use Rattle.reading.specs.Run.{Run}
+use Rattle.reading.specs.declared.Tokenizer.{Tokenizer}
 use Rattle.run.specs.Checked.{ranOf, wholeRun}
 use Rattle.run.specs.Numbers.{groupSize, numbersAll, numbersOf}
 use Rattle.run.specs.Pending.{advanceOf, beginOf}

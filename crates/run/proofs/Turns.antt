@@ -20,13 +20,13 @@ use Rattle.record.specs.declared.Checked.the-variants.{Passed, Refused as Stopp
 use Rattle.record.specs.declared.Code.the-variants.{BadRecord, NoRoom}
 use Rattle.record.specs.declared.Refusal.{Refusal}
 use Rattle.record.specs.declared.Token.{Token}
-use Rattle.tok.specs.Run.{Run, also, run, runFrom, step, stopped}
-use Rattle.tok.specs.Story.{run-end, run-error, run-full, run-got}
-use Rattle.tok.specs.declared.Outcome.{Outcome}
-use Rattle.tok.specs.declared.Outcome.the-variants.{Ended, Refused, Running}
-use Rattle.tok.specs.declared.Tokenizer.{Tokenizer}
-use Rattle.tok.specs.declared.What.{What}
-use Rattle.tok.specs.declared.What.the-variants.{End, Error, Got}
+use Rattle.reading.specs.Run.{Run, also, run, runFrom, step, stopped}
+use Rattle.reading.specs.Story.{run-end, run-error, run-full, run-got}
+use Rattle.reading.specs.declared.Outcome.{Outcome}
+use Rattle.reading.specs.declared.Outcome.the-variants.{Ended, Refused, Running}
+use Rattle.reading.specs.declared.Tokenizer.{Tokenizer}
+use Rattle.reading.specs.declared.What.{What}
+use Rattle.reading.specs.declared.What.the-variants.{End, Error, Got}
 use Rattle.run.specs.Checked.{countIf, ranOf, report, runIf, wholeRun}
 use Rattle.run.specs.Pending.{advanceOf, beginIf, beginOf, goes, halted, pendBy, pendOf}
 use Rattle.run.specs.Room.{Onward, Ready}

@@ -9,11 +9,11 @@ use Rattle.record.specs.Records.{refusal}
 use Rattle.record.specs.declared.Checked.{Checked}
 use Rattle.record.specs.declared.Checked.the-variants.{Passed, Refused as Stopped}
 use Rattle.record.specs.declared.Code.the-variants.{BadRecord}
-use Rattle.tok.specs.Run.{Run, run, step, stopped}
-use Rattle.tok.specs.declared.Outcome.the-variants.{Refused}
-use Rattle.tok.specs.declared.Stepped.{Stepped}
-use Rattle.tok.specs.declared.Tokenizer.{Tokenizer}
-use Rattle.tok.specs.declared.What.the-variants.{Error}
+use Rattle.reading.specs.Run.{Run, run, step, stopped}
+use Rattle.reading.specs.declared.Outcome.the-variants.{Refused}
+use Rattle.reading.specs.declared.Stepped.{Stepped}
+use Rattle.reading.specs.declared.Tokenizer.{Tokenizer}
+use Rattle.reading.specs.declared.What.the-variants.{Error}
 use Rattle.run.specs.declared.Ran.{Ran}
 
 -- 01: "A public single call repeats the checks, then answers 20, nothing changed, for a cursor off its text's boundaries."

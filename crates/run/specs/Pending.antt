@@ -11,13 +11,13 @@ use Rattle.record.specs.declared.Checked.the-variants.{Passed, Refused as Stopp
 use Rattle.record.specs.declared.Code.the-variants.{BadRecord, NoRoom}
 use Rattle.record.specs.declared.Kind.the-variants.{Enum}
 use Rattle.record.specs.declared.Token.{Token}
-use Rattle.tok.specs.Run.{step}
-use Rattle.tok.specs.declared.Outcome.{Outcome}
-use Rattle.tok.specs.declared.Outcome.the-variants.{Ended, Refused, Running}
-use Rattle.tok.specs.declared.Stepped.{Stepped}
-use Rattle.tok.specs.declared.Tokenizer.{Tokenizer}
-use Rattle.tok.specs.declared.What.{What}
-use Rattle.tok.specs.declared.What.the-variants.{End, Error, Got}
+use Rattle.reading.specs.Run.{step}
+use Rattle.reading.specs.declared.Outcome.{Outcome}
+use Rattle.reading.specs.declared.Outcome.the-variants.{Ended, Refused, Running}
+use Rattle.reading.specs.declared.Stepped.{Stepped}
+use Rattle.reading.specs.declared.Tokenizer.{Tokenizer}
+use Rattle.reading.specs.declared.What.{What}
+use Rattle.reading.specs.declared.What.the-variants.{End, Error, Got}
 use Rattle.run.specs.Checked.{countIf}
 use Rattle.run.specs.declared.Pending.{Pending}
 

@@ -12,16 +12,16 @@ use Rattle.record.specs.Allowed.{Allowed, allowed}
 use Rattle.record.specs.Checks.{checks}
 use Rattle.record.specs.declared.Checked.the-variants.{Passed}
 use Rattle.scan.specs.Until.{left}
-use Rattle.tok.specs.Inside.{Inside, InsideIn, next-inside}
-use Rattle.tok.specs.Next.{next}
-use Rattle.tok.specs.Run.{step, stepBy, stepIn}
-use Rattle.tok.specs.Steps.{Within, call-within}
-use Rattle.tok.specs.declared.Outcome.{Outcome}
-use Rattle.tok.specs.declared.Outcome.the-variants.{Ended, Refused, Running}
-use Rattle.tok.specs.declared.Stepped.{Stepped}
-use Rattle.tok.specs.declared.Tokenizer.{Tokenizer}
-use Rattle.tok.specs.declared.What.{What}
-use Rattle.tok.specs.declared.What.the-variants.{End, Error, Got}
+use Rattle.reading.specs.Inside.{Inside, InsideIn, next-inside}
+use Rattle.reading.specs.Next.{next}
+use Rattle.reading.specs.Run.{step, stepBy, stepIn}
+use Rattle.reading.specs.Steps.{Within, call-within}
+use Rattle.reading.specs.declared.Outcome.{Outcome}
+use Rattle.reading.specs.declared.Outcome.the-variants.{Ended, Refused, Running}
+use Rattle.reading.specs.declared.Stepped.{Stepped}
+use Rattle.reading.specs.declared.Tokenizer.{Tokenizer}
+use Rattle.reading.specs.declared.What.{What}
+use Rattle.reading.specs.declared.What.the-variants.{End, Error, Got}
 use Rattle.run.specs.Payload.{isPayload}
 use Rattle.run.specs.Room.{Ready, Roomy, RoomyIn}
 

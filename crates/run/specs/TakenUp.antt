@@ -14,17 +14,17 @@ use Rattle.record.specs.declared.Refusal.{Refusal}
 use Rattle.record.specs.declared.Token.{Token}
 use Rattle.scan.specs.Far.{short}
 use Rattle.scan.specs.Until.{left}
-use Rattle.tok.specs.Ledger.{runs-out}
-use Rattle.tok.specs.Next.{next}
-use Rattle.tok.specs.Run.{Run, also, doneBy, run, runFrom, shiftWhat, step, stepBy, stepIn, stopped}
-use Rattle.tok.specs.Story.{again-end, again-error, run-end, run-error, run-full, run-got, tell}
-use Rattle.tok.specs.declared.Call.{Call}
-use Rattle.tok.specs.declared.Outcome.{Outcome}
-use Rattle.tok.specs.declared.Outcome.the-variants.{Ended, Refused, Running}
-use Rattle.tok.specs.declared.Stepped.{Stepped}
-use Rattle.tok.specs.declared.Tokenizer.{Tokenizer}
-use Rattle.tok.specs.declared.What.{What}
-use Rattle.tok.specs.declared.What.the-variants.{End, Error, Got}
+use Rattle.reading.specs.Ledger.{runs-out}
+use Rattle.reading.specs.Next.{next}
+use Rattle.reading.specs.Run.{Run, also, doneBy, run, runFrom, shiftWhat, step, stepBy, stepIn, stopped}
+use Rattle.reading.specs.Story.{again-end, again-error, run-end, run-error, run-full, run-got, tell}
+use Rattle.reading.specs.declared.Call.{Call}
+use Rattle.reading.specs.declared.Outcome.{Outcome}
+use Rattle.reading.specs.declared.Outcome.the-variants.{Ended, Refused, Running}
+use Rattle.reading.specs.declared.Stepped.{Stepped}
+use Rattle.reading.specs.declared.Tokenizer.{Tokenizer}
+use Rattle.reading.specs.declared.What.{What}
+use Rattle.reading.specs.declared.What.the-variants.{End, Error, Got}
 use Rattle.run.specs.Room.{Ready}
 use Rattle.run.specs.Steps.{step-ready}
 

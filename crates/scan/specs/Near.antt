@@ -17,7 +17,7 @@ use Rattle.scan.specs.Far.{Far, after}
 use Rattle.scan.specs.IfNext.{ifNext}
 use Rattle.scan.specs.Readers.{commentEnd, regDone, regStep, regexEnd, stringEnd}
 use Rattle.scan.specs.Passes.{Sound, string-sound, block-sound, regex-sound, upto-sound}
-use Rattle.scan.specs.Seek.{seek, skipMore, stringSkip, blockSkip, regexSkip, through, upTo}
+use Rattle.scan.specs.Seek.{seek, skipMore, stringSkip, blockComment, regexSkip, through, upTo}
 use Rattle.scan.specs.Steps.{reg-less}
 use Rattle.scan.specs.Until.{until}
 use Rattle.scan.specs.Walk.{turnOf, walk, walkFrom}
@@ -82,7 +82,7 @@ module _ (o : ℕ) where
     pub string-near : Near o (stringSkip o cs at)
     string-near = near-through UnterminatedStringLiteral cs at (stringEnd 'dquote cs at) h (string-sound o cs at)
 
-    pub block-near : Near o (blockSkip o cs at)
+    pub block-near : Near o (blockComment o cs at)
     block-near = near-through UnterminatedBlockComment cs at (commentEnd cs at) h (block-sound o cs at)
 
     pub regex-near : (n : ℕ) → Near o (regexSkip o n cs at)

@@ -14,7 +14,7 @@ use Rattle.record.specs.declared.Refusal.{Refusal}
 use Rattle.scan.specs.Far.{Far, Stops, far-none, fits, from-0, one-more, past-0, stops-by, stops-here, stops-on, then, until-before, until-nothing, until-past}
 use Rattle.scan.specs.IfNext.{ifNext}
 use Rattle.scan.specs.Readers.{comDone, comStep, commentEnd, regDone, regStep, regexEnd, strDone, strStep, stringEnd}
-use Rattle.scan.specs.Seek.{blockSkip, seek, seekDone, seekStep, skipMore, regexSkip, stringSkip, through, upTo}
+use Rattle.scan.specs.Seek.{blockComment, seek, seekDone, seekStep, skipMore, regexSkip, stringSkip, through, upTo}
 use Rattle.scan.specs.Steps.{com-narrow, reg-narrow, str-narrow}
 use Rattle.scan.specs.Until.{left}
 use Rattle.scan.specs.Walk.{turnOf, walk, walkFrom}
@@ -118,7 +118,7 @@ pub string-sound : (o : ℕ) (cs : List ℕ) (at : ℕ) → Sound cs at (stringS
 unfolding widthOf
 string-sound o cs at = through-sound _ o cs at (stringEnd 'dquote cs at) (λ p m e. string-past cs at p m 'dquote refl e) (λ p m e. string-none cs at p m 'dquote e)
 
-pub block-sound : (o : ℕ) (cs : List ℕ) (at : ℕ) → Sound cs at (blockSkip o cs at)
+pub block-sound : (o : ℕ) (cs : List ℕ) (at : ℕ) → Sound cs at (blockComment o cs at)
 block-sound o cs at = through-sound _ o cs at (commentEnd cs at) (λ p m e. comment-past cs at p m e) (λ p m e. comment-none cs at p m e)
 
 pub regex-sound : (o h : ℕ) (cs : List ℕ) (at : ℕ) → Sound cs at (regexSkip o h cs at)

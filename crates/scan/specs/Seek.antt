@@ -54,8 +54,8 @@ abbrev pub stringSkip : ℕ → List ℕ → ℕ → Skip
 stringSkip o cs at = through UnterminatedStringLiteral o (stringEnd 'dquote cs at)
 
 -- after the slash and the star of a comment that starts at o: through the star and slash that close it; an open one is 10 at o
-abbrev pub blockSkip : ℕ → List ℕ → ℕ → Skip
-blockSkip o cs at = through UnterminatedBlockComment o (commentEnd cs at)
+abbrev pub blockComment : ℕ → List ℕ → ℕ → Skip
+blockComment o cs at = through UnterminatedBlockComment o (commentEnd cs at)
 
 -- after the opening quote of a regex that starts at o: through the quote and the h hashes that close it. 01: "End: 5 at `r`"
 abbrev pub regexSkip : ℕ → ℕ → List ℕ → ℕ → Skip

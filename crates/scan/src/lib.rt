@@ -14,7 +14,8 @@ ghost use Rattle.utf8.specs.Utf8.{chars};
 ghost use Rattle.scan.specs.declared.Found.the-variants.{At};
 ghost use Rattle.scan.specs.Readers.{strStep, strDone, stringEnd, comStep, comDone, depthOf, commentEnd, regStep, regDone, regexEnd};
 ghost use Rattle.scan.specs.IfNext.{ifNext};
-ghost use Rattle.scan.specs.Seek.{stopAt, seek, upTo, through, stringSkip, blockSkip, regexSkip};
+ghost use Rattle.scan.specs.declared.Sought.the-variants.{Word};
+ghost use Rattle.scan.specs.Seek.{stopAt, seek, upTo, through, stringSkip, blockComment, regexSkip};
 ghost use Rattle.scan.specs.Walk.{turnOf};
 
 pub enum Found {
@@ -272,7 +273,7 @@ fn stops(kind: Sought, c: u32) -> bool
 }
 
 // `take_until`, and `take_while` for hashes and words: the first character from a place that the kind stops at.
-pub fn seek_end(s: &[u8], from: usize, kind: Sought) -> Found
+pub fn take_until(s: &[u8], from: usize, kind: Sought) -> Found
     ensures { λ r. ⌜ r ≡ seek kind (chars (drop from (now (s .entry)))) from ⌝ }
 {
     let to = runs::seek_run(s, from, kind);
@@ -298,6 +299,13 @@ pub fn seek_end(s: &[u8], from: usize, kind: Sought) -> Found
             }
         }
     }
+}
+
+// The rest of a word.
+pub fn word(s: &[u8], from: usize) -> Found
+    ensures { λ r. ⌜ r ≡ seek Word (chars (drop from (now (s .entry)))) from ⌝ }
+{
+    take_until(s, from, Sought::Word)
 }
 
 // Whether the character k stands at a place.
@@ -359,8 +367,8 @@ pub fn string_skip(s: &[u8], at: usize, o: usize) -> Skip
 }
 
 // `block_comment` after the slash and the star of a comment that starts at o.
-pub fn block_skip(s: &[u8], at: usize, o: usize) -> Skip
-    ensures { λ r. ⌜ r ≡ blockSkip o (chars (drop at (now (s .entry)))) at ⌝ }
+pub fn block_comment(s: &[u8], at: usize, o: usize) -> Skip
+    ensures { λ r. ⌜ r ≡ blockComment o (chars (drop at (now (s .entry)))) at ⌝ }
 {
     through(Code::UnterminatedBlockComment, o, comment_end(s, at))
 }

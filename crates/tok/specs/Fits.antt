@@ -14,12 +14,12 @@ use Rattle.utf8.specs.declared.Sight.the-variants.{Char, End as SightEnd}
 use Rattle.scan.specs.Far.{Far, fits}
 use Rattle.scan.specs.IfNext.{ifNext}
 use Rattle.scan.specs.Until.{left}
-use Rattle.tok.specs.Attribute.{attempt, attemptBody, attemptBracket, dropped}
-use Rattle.tok.specs.CallLaw.{Tried, attempt-tried, body-tried, bracket-tried}
-use Rattle.tok.specs.Calls.{Fair}
-use Rattle.tok.specs.declared.Attempt.{Attempt}
-use Rattle.tok.specs.declared.Attempt.the-variants.{Closed, Failed}
-use Rattle.tok.specs.declared.Call.{Call}
+use Rattle.reading.specs.Attribute.{attempt, attemptBody, attemptBracket, dropped}
+use Rattle.reading.specs.CallLaw.{Tried, attempt-tried, body-tried, bracket-tried}
+use Rattle.reading.specs.Calls.{Fair}
+use Rattle.reading.specs.declared.Attempt.{Attempt}
+use Rattle.reading.specs.declared.Attempt.the-variants.{Closed, Failed}
+use Rattle.reading.specs.declared.Call.{Call}
 
 -- the advances of a fair call are no more than the bytes of the text
 pub fair-fits : {o : ℕ} (s : List ℕ) (at : ℕ) {x y : Call} → x ≡ y → Fair o (left s at) at y → x .advances ≤ length s

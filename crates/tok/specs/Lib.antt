@@ -1,24 +1,2 @@
--- what a reader must believe, in the order of 01
-pub mod Answers
-pub mod Gaps
-pub mod Symbols
-pub mod Quotes
-pub mod Words
-pub mod Regex
-pub mod Attribute
-pub mod Next
-pub mod Run
-pub mod Marked
-pub mod Measures
-pub mod Ledger
--- the laws that lead there, and those that the code cites
-pub mod Passes
-pub mod Calls
-pub mod CallLaw
-pub mod Story
-pub mod Sums
-pub mod Steps
-pub mod Inside
-pub mod Letters
+-- laws that the code cites; the definitions stand in `reading`
 pub mod Fits
-pub mod Sights

@@ -1,6 +1,6 @@
 // What a hash starts: an attribute; or, if that attempt fails, Hash, with the cursor just after the hash.
-use crate::Attempt;
-use crate::Call;
+use reading::Attempt;
+use reading::Call;
 use record::Kind;
 use scan::Skip;
 use scan::Turn;
@@ -12,7 +12,7 @@ ghost use Prim.Native.Nat.{ℕ, _+_, _-_, _<_, _≤_};
 ghost use Rattle.scan.specs.Until.{left};
 ghost use Rattle.scan.specs.Far.{after};
 ghost use Rattle.scan.specs.Walk.{walk, walkFrom};
-ghost use Rattle.tok.specs.Attribute.{attributeTurn, attributeLast, attemptMore, attemptBody, attemptBracket, attempt, dropped, attributeToken, hash};
+ghost use Rattle.reading.specs.Attribute.{attributeTurn, attributeLast, attemptMore, attemptBody, attemptBracket, attempt, dropped, attributeToken, hash};
 ghost use Rattle.tok.specs.Fits.{advancesOf};
 
 // What the character c at a place does, with b brackets open: the balancing bracket and a newline stop, strings are read whole.
@@ -177,7 +177,7 @@ fn attribute_token(s: &[u8], o: usize, p: usize) -> Call
     ensures { λ r. ⌜ r ≡ attributeToken o (left (now (s .entry)) p) p ⌝ }
 {
     let t = dropped(s, p);
-    let x = crate::deliver(Kind::ShebangAttribute, o, o, p, p, 0);
+    let x = reading::deliver(Kind::ShebangAttribute, o, o, p, p, 0);
     let w = x.what;
     Call {
         what: w,
@@ -192,6 +192,6 @@ pub fn hash(s: &[u8], o: usize, at: usize) -> Call
 {
     match shebang_attribute(s, at) {
         Attempt::Closed(p, m) => crate::more(m, attribute_token(s, o, p)),
-        Attempt::Failed(m) => crate::plain(Kind::Hash, o, at, m),
+        Attempt::Failed(m) => reading::plain(Kind::Hash, o, at, m),
     }
 }

@@ -8,17 +8,17 @@ ghost use Prim.Native.Nat.{_+_};
 ghost use mathlib.Core.Path.{_≡_};
 ghost use lib.ListN.{drop};
 ghost use Rattle.scan.specs.Runs.{run};
-ghost use Rattle.scan.specs.Seek.{blockSkip, skipMore};
+ghost use Rattle.scan.specs.Seek.{blockComment, skipMore};
 ghost use Rattle.scan.specs.Until.{left};
 ghost use Rattle.scan.specs.Walk.{turnOf};
-ghost use Rattle.tok.specs.Gaps.{commentTurn, gapTurn, gap};
-ghost use Rattle.tok.specs.Steps.{gapStop};
+ghost use Rattle.reading.specs.Gaps.{commentTurn, gapTurn, gap};
+ghost use Rattle.reading.specs.Steps.{gapStop};
 
 // A block comment that starts at o, from after its slash and star; the star is counted.
 fn block_turn(s: &[u8], at: usize, o: usize) -> Turn
-    ensures { λ r. ⌜ r ≡ turnOf 0 (skipMore 1 (blockSkip o (left (now (s .entry)) at) at)) ⌝ }
+    ensures { λ r. ⌜ r ≡ turnOf 0 (skipMore 1 (blockComment o (left (now (s .entry)) at) at)) ⌝ }
 {
-    match scan::block_skip(s, at, o) {
+    match scan::block_comment(s, at, o) {
         Skip::Past(p, m) => Turn::Pass(p, 1 + m, 0),
         Skip::Lost(r, p, m) => Turn::Fail(r, p, 1 + m),
     }
@@ -31,7 +31,7 @@ fn comment_turn(s: &[u8], at: usize, o: usize) -> Turn
     match utf8::char_at(s, at) {
         Sight::Char { code, width } => {
             if code == signs::SLASH {
-                return scan::to_turn(0, scan::up_to(scan::seek_end(s, at, Sought::Newline)));
+                return scan::to_turn(0, scan::up_to(scan::take_until(s, at, Sought::Newline)));
             }
             if code == signs::STAR {
                 return block_turn(s, at + width, o);

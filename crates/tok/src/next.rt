@@ -1,6 +1,6 @@
 // One call: a gap and then a token, an error or the end. It knows nothing of shift, room or work limit.
-use crate::Call;
-use crate::What;
+use reading::Call;
+use reading::What;
 use record::Kind;
 use scan::Skip;
 use utf8::Sight;
@@ -10,17 +10,17 @@ ghost use mathlib.Core.List.{_∷_};
 ghost use mathlib.Core.Path.{_≡_};
 ghost use Rattle.unicode.specs.Identifier.{isIdentifierStart};
 ghost use Rattle.scan.specs.Until.{left};
-ghost use Rattle.tok.specs.Answers.{more};
-ghost use Rattle.tok.specs.Next.{starts, token, tokenOrEnd, next};
-ghost use Rattle.tok.specs.Symbols.{stray};
-ghost use Rattle.tok.specs.Words.{identifierish};
+ghost use Rattle.reading.specs.Answers.{more};
+ghost use Rattle.reading.specs.Next.{starts, token, tokenOrEnd, next};
+ghost use Rattle.reading.specs.Symbols.{stray};
+ghost use Rattle.reading.specs.Words.{identifierish};
 
 // A character that no rule names, at o: it starts a word, or nothing.
 fn other(s: &[u8], c: u32, o: usize, next: usize) -> Call
     ensures { λ r. ⌜ r ≡ cond (isIdentifierStart c) (more 1 (identifierish (left (now (s .entry)) o) o (left (now (s .entry)) next) next)) (stray o) ⌝ }
 {
     if unicode::is_identifier_start(c) {
-        return crate::more(1, crate::words::identifierish(s, o, next));
+        return crate::more(1, crate::identifier::identifierish(s, o, next));
     }
     crate::symbols::stray(o)
 }
@@ -37,9 +37,9 @@ fn starts(s: &[u8], c: u32, o: usize, next: usize) -> Call
         signs::EQUALS => crate::more(1, crate::symbols::equals(s, o, next)),
         signs::AT => crate::more(1, crate::symbols::look(s, o, next)),
         signs::TILDE => crate::more(1, crate::symbols::tilde(s, o, next)),
-        signs::BACKTICK => crate::more(1, crate::quotes::escape(s, o, next)),
-        signs::QUOTE => crate::more(1, crate::quotes::lifetimeish(s, o, next)),
-        signs::DOUBLE_QUOTE => crate::more(1, crate::quotes::string_literal(s, o, next)),
+        signs::BACKTICK => crate::more(1, words::quotes::escape(s, o, next)),
+        signs::QUOTE => crate::more(1, words::quotes::lifetimeish(s, o, next)),
+        signs::DOUBLE_QUOTE => crate::more(1, words::quotes::string_literal(s, o, next)),
         signs::SLASH => crate::more(1, crate::symbols::half(o, next)),
         signs::MINUS => crate::more(1, crate::symbols::minus(s, o, next)),
         signs::LOWER_R => crate::more(1, crate::regex::r_word(s, o, next)),
@@ -54,20 +54,20 @@ fn token(s: &[u8], c: u32, o: usize, next: usize) -> Call
 {
     match c {
         signs::HASH => crate::more(1, crate::attribute::hash(s, o, next)),
-        signs::AMPERSAND => crate::plain(Kind::Ampersand, o, next, 1),
-        signs::COMMA => crate::plain(Kind::Comma, o, next, 1),
-        signs::GREATER_THAN => crate::plain(Kind::GreaterThan, o, next, 1),
-        signs::LEFT_BRACE => crate::plain(Kind::LeftBrace, o, next, 1),
-        signs::LEFT_BRACKET => crate::plain(Kind::LeftBracket, o, next, 1),
-        signs::LEFT_PAREN => crate::plain(Kind::LeftParen, o, next, 1),
-        signs::LESS_THAN => crate::plain(Kind::LessThan, o, next, 1),
-        signs::PLUS => crate::plain(Kind::Plus, o, next, 1),
-        signs::QUESTION => crate::plain(Kind::Question, o, next, 1),
-        signs::RIGHT_BRACE => crate::plain(Kind::RightBrace, o, next, 1),
-        signs::RIGHT_BRACKET => crate::plain(Kind::RightBracket, o, next, 1),
-        signs::RIGHT_PAREN => crate::plain(Kind::RightParen, o, next, 1),
-        signs::SEMI => crate::plain(Kind::Semi, o, next, 1),
-        signs::STAR => crate::plain(Kind::Star, o, next, 1),
+        signs::AMPERSAND => reading::plain(Kind::Ampersand, o, next, 1),
+        signs::COMMA => reading::plain(Kind::Comma, o, next, 1),
+        signs::GREATER_THAN => reading::plain(Kind::GreaterThan, o, next, 1),
+        signs::LEFT_BRACE => reading::plain(Kind::LeftBrace, o, next, 1),
+        signs::LEFT_BRACKET => reading::plain(Kind::LeftBracket, o, next, 1),
+        signs::LEFT_PAREN => reading::plain(Kind::LeftParen, o, next, 1),
+        signs::LESS_THAN => reading::plain(Kind::LessThan, o, next, 1),
+        signs::PLUS => reading::plain(Kind::Plus, o, next, 1),
+        signs::QUESTION => reading::plain(Kind::Question, o, next, 1),
+        signs::RIGHT_BRACE => reading::plain(Kind::RightBrace, o, next, 1),
+        signs::RIGHT_BRACKET => reading::plain(Kind::RightBracket, o, next, 1),
+        signs::RIGHT_PAREN => reading::plain(Kind::RightParen, o, next, 1),
+        signs::SEMI => reading::plain(Kind::Semi, o, next, 1),
+        signs::STAR => reading::plain(Kind::Star, o, next, 1),
         _ => starts(s, c, o, next),
     }
 }

@@ -1,5 +1,5 @@
 // What the letter r starts: a regex, a hashed word, or a word.
-use crate::Call;
+use reading::Call;
 use record::Code;
 use record::Kind;
 use scan::Found;
@@ -8,14 +8,14 @@ use utf8::Sight;
 use utf8::signs;
 ghost use mathlib.Core.Path.{_≡_};
 ghost use Rattle.scan.specs.Until.{left};
-ghost use Rattle.tok.specs.Regex.{regexToken, hashed, regexLiteral, rWord};
+ghost use Rattle.reading.specs.Regex.{regexToken, hashed, regexLiteral, rWord};
 
 // After the opening quote of a regex with h hashes that starts at o.
 fn regex_token(s: &[u8], o: usize, h: usize, at: usize) -> Call
     ensures { λ r. ⌜ r ≡ regexToken o h (left (now (s .entry)) at) at ⌝ }
 {
     match scan::regex_end(s, at, h) {
-        Found::At { place, passed } => crate::deliver(
+        Found::At { place, passed } => reading::deliver(
             Kind::RegexLiteral,
             o,
             at,
@@ -23,7 +23,7 @@ fn regex_token(s: &[u8], o: usize, h: usize, at: usize) -> Call
             place + 1,
             passed + 1,
         ),
-        Found::Nothing { place, passed } => crate::refuse(
+        Found::Nothing { place, passed } => reading::refuse(
             Code::UnterminatedStringLiteral,
             o,
             place,
@@ -42,11 +42,11 @@ fn hashed(s: &[u8], o: usize, h: usize, at: usize) -> Call
                 return crate::more(1, regex_token(s, o, h, at + width));
             }
             if unicode::is_identifier_start(code) {
-                return crate::more(1, crate::words::identifierish(s, o, at + width));
+                return crate::more(1, crate::identifier::identifierish(s, o, at + width));
             }
-            crate::refuse(Code::ExpectedStringLiteral, at, at, 0)
+            reading::refuse(Code::ExpectedStringLiteral, at, at, 0)
         }
-        Sight::End => crate::refuse(Code::UnterminatedStringLiteral, o, at, 0),
+        Sight::End => reading::refuse(Code::UnterminatedStringLiteral, o, at, 0),
     }
 }
 
@@ -54,9 +54,9 @@ fn hashed(s: &[u8], o: usize, h: usize, at: usize) -> Call
 fn regex_literal(s: &[u8], o: usize, at: usize) -> Call
     ensures { λ r. ⌜ r ≡ regexLiteral (left (now (s .entry)) o) o (left (now (s .entry)) at) at ⌝ }
 {
-    match scan::seek_end(s, at, Sought::Hashes) {
+    match scan::take_until(s, at, Sought::Hashes) {
         Found::At { place, passed } => crate::more(passed, hashed(s, o, passed, place)),
-        Found::Nothing { place, passed } => crate::refuse(
+        Found::Nothing { place, passed } => reading::refuse(
             Code::UnterminatedStringLiteral,
             o,
             place,
@@ -75,5 +75,5 @@ pub fn r_word(s: &[u8], o: usize, at: usize) -> Call
     if scan::is_next(s, at, signs::DOUBLE_QUOTE) {
         return regex_literal(s, o, at);
     }
-    crate::words::identifierish(s, o, at)
+    crate::identifier::identifierish(s, o, at)
 }

@@ -1,5 +1,5 @@
 // Symbols. Each reader of a longer symbol stands after its first character; that one stands at o, what is left at at.
-use crate::Call;
+use reading::Call;
 use record::Code;
 use record::Kind;
 use scan::is_next;
@@ -9,21 +9,21 @@ ghost use mathlib.Core.Path.{_≡_};
 ghost use Prim.Native.Nat.{_+_};
 ghost use Rattle.scan.specs.Until.{left};
 ghost use Rattle.scan.specs.IfNext.{ifNext};
-ghost use Rattle.tok.specs.Answers.{plain};
-ghost use Rattle.tok.specs.Symbols.{half, stray, bang, colon, dot, look, tilde, minus, arrowLook, arrowCode, rightArrow, equals};
+ghost use Rattle.reading.specs.Answers.{plain};
+ghost use Rattle.reading.specs.Symbols.{half, stray, bang, colon, dot, look, tilde, minus, arrowLook, arrowCode, rightArrow, equals};
 
 // Half a symbol: refused at its first character, which is passed.
 pub fn half(o: usize, at: usize) -> Call
     ensures { λ r. ⌜ r ≡ half o at ⌝ }
 {
-    crate::refuse(Code::UnrecognizedToken, o, at, 0)
+    reading::refuse(Code::UnrecognizedToken, o, at, 0)
 }
 
 // A character that starts nothing: refused at its place, and not passed.
 pub fn stray(o: usize) -> Call
     ensures { λ r. ⌜ r ≡ stray o ⌝ }
 {
-    crate::refuse(Code::UnrecognizedToken, o, o, 0)
+    reading::refuse(Code::UnrecognizedToken, o, o, 0)
 }
 
 // A second character k makes the longer symbol; without it the answer is the other one.
@@ -31,7 +31,7 @@ fn mark(s: &[u8], o: usize, at: usize, k: u32, kind: Kind, other: Call) -> Call
     ensures { λ r. ⌜ r ≡ ifNext k (left (now (s .entry)) at) (plain kind o (at + 1) 1) other ⌝ }
 {
     if is_next(s, at, k) {
-        return crate::plain(kind, o, at + 1, 1);
+        return reading::plain(kind, o, at + 1, 1);
     }
     other
 }
@@ -45,7 +45,7 @@ pub fn bang(s: &[u8], o: usize, at: usize) -> Call
         at,
         signs::TILDE,
         Kind::BangTilde,
-        crate::plain(Kind::Bang, o, at, 0),
+        reading::plain(Kind::Bang, o, at, 0),
     );
     mark(s, o, at, signs::EQUALS, Kind::BangEquals, other)
 }
@@ -59,7 +59,7 @@ pub fn colon(s: &[u8], o: usize, at: usize) -> Call
         at,
         signs::COLON,
         Kind::ColonColon,
-        crate::plain(Kind::Colon, o, at, 0),
+        reading::plain(Kind::Colon, o, at, 0),
     )
 }
 
@@ -121,7 +121,7 @@ fn arrow_look(s: &[u8], o: usize, at: usize) -> Call
 fn arrow_code(s: &[u8], kind: Kind, o: usize, at: usize) -> Call
     ensures { λ r. ⌜ r ≡ arrowCode kind o (left (now (s .entry)) at) at ⌝ }
 {
-    crate::words::code_token(kind, o, at, code::code_end(s, at, o))
+    words::code_token(kind, o, at, code::code(s, at, o))
 }
 
 // After `=>`.
@@ -141,7 +141,7 @@ fn right_arrow(s: &[u8], o: usize, at: usize) -> Call
             }
             arrow_code(s, Kind::EqualsGreaterThanCode, o, at)
         }
-        Sight::End => crate::refuse(Code::UnterminatedCode, o, at, 0),
+        Sight::End => reading::refuse(Code::UnterminatedCode, o, at, 0),
     }
 }
 
@@ -149,10 +149,10 @@ pub fn equals(s: &[u8], o: usize, at: usize) -> Call
     ensures { λ r. ⌜ r ≡ equals o (left (now (s .entry)) at) at ⌝ }
 {
     if is_next(s, at, signs::EQUALS) {
-        return crate::plain(Kind::EqualsEquals, o, at + 1, 1);
+        return reading::plain(Kind::EqualsEquals, o, at + 1, 1);
     }
     if is_next(s, at, signs::GREATER_THAN) {
         return crate::more(1, right_arrow(s, o, at + 1));
     }
-    crate::plain(Kind::Equals, o, at, 0)
+    reading::plain(Kind::Equals, o, at, 0)
 }

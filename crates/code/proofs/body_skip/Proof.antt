@@ -19,7 +19,7 @@ use Rattle.code.proofs.closing_hashes.Reads as closing-hashes-reads
 use Rattle.code.proofs.lost.Reads as lost-reads
 use Rattle.code.proofs.skip_more.Reads as skip-more-reads
 use Rattle.scan.proofs.regex_skip.Reads as regex-skip-reads
-use Rattle.scan.proofs.seek_end.Reads as seek-end-reads
+use Rattle.scan.proofs.word.Reads as word-reads
 use Rattle.scan.proofs.up_to.Reads as up-to-reads
 use Rattle.unicode.proofs.is_identifier_start.Reads as is-identifier-start-reads
 use Rattle.utf8.proofs.char_at.Reads as char-at-reads
@@ -53,21 +53,21 @@ returns c = let h = here (c .before .before .before .before) in let g = c .skip-
 is-identifier-start-requires : tie.Need-is-identifier-start-requires
 is-identifier-start-requires c κs = search needs
 
-add-seek-end : tie.Need-add-seek-end
-add-seek-end c = omega (arith, here (c .before .before .before))
+add-word : tie.Need-add-word
+add-word c = omega (arith, here (c .before .before .before))
 
-seek-end-requires : tie.Need-seek-end-requires
-seek-end-requires c κs = search needs
+word-requires : tie.Need-word-requires
+word-requires c κs = search needs
 
 up-to-requires : tie.Need-up-to-requires
 up-to-requires c κs = search needs
 
 skip-more-requires-2 : tie.Need-skip-more-requires-2
-skip-more-requires-2 c κs = omega (arith, sound-fits (c .before .before .before .before .before .before .before .before .before .before .args .s .now) (c .before .before .before .before .before .before .before .before .before .before .args .at + c .before .before .before .before .before .before .code .given .0 .1 .0) (c .up-to .ensures ∙ ap upTo (c .before .seek-end .ensures)) (upto-sound Word _ _))
+skip-more-requires-2 c κs = omega (arith, sound-fits (c .before .before .before .before .before .before .before .before .before .before .args .s .now) (c .before .before .before .before .before .before .before .before .before .before .args .at + c .before .before .before .before .before .before .code .given .0 .1 .0) (c .up-to .ensures ∙ ap upTo (c .before .word .ensures)) (upto-sound Word _ _))
 
 returns-2 : tie.Need-returns-2
 unfolding bodySkip
-returns-2 c = let h = here (c .before .before .before .before .before .before) in let g = c .skip-more2 .ensures ∙ ap (skipMore 1) (c .before .up-to .ensures ∙ ap upTo (c .before .before .seek-end .ensures)) in rw (h .next, ← (h .width)) (search flags)
+returns-2 c = let h = here (c .before .before .before .before .before .before) in let g = c .skip-more2 .ensures ∙ ap (skipMore 1) (c .before .up-to .ensures ∙ ap upTo (c .before .before .word .ensures)) in rw (h .next, ← (h .width)) (search flags)
 
 lost-requires : tie.Need-lost-requires
 lost-requires c κs = search needs
@@ -98,8 +98,8 @@ body-skip-spec =
     skip-more-requires
     returns
     is-identifier-start-requires
-    add-seek-end
-    seek-end-requires
+    add-word
+    word-requires
     up-to-requires
     skip-more-requires-2
     returns-2

@@ -16,7 +16,7 @@ use Rattle.code.proofs.esc_skip.Reads as reads
 use Rattle.code.proofs.esc_skip.Lts as lts
 use Rattle.code.proofs.lost.Reads as lost-reads
 use Rattle.code.proofs.quote_end.Reads as quote-end-reads
-use Rattle.scan.proofs.seek_end.Reads as seek-end-reads
+use Rattle.scan.proofs.take_until.Reads as take-until-reads
 use Rattle.utf8.proofs.char_at.Reads as char-at-reads
 
 -- the character that the code sees
@@ -25,10 +25,10 @@ here c = seen _ _ _ _ (sym (c .before .before .before .char-at .ensures) ∙ c .
 
 -- the quote that it finds
 far : (c : tie.After-known-told2) → Lands (c .before .before .before .before .before .before .before .before .before .args .s .now) (c .before .before .before .before .before .before .before .before .before .args .at + c .before .before .before .before .before .width .given .0 .1 .0) (c .before .place .given .0 .1 .0 + 1) (c .before .place .given .0 .0 + 1)
-far c = lands _ _ _ _ (quote-past _ _ _ _ (sym (c .before .before .before .seek-end .ensures) ∙ c .before .place .given .1))
+far c = lands _ _ _ _ (quote-past _ _ _ _ (sym (c .before .before .before .take-until .ensures) ∙ c .before .place .given .1))
 
 fails : (c : tie.After-known-told3) → Lands (c .before .before .before .before .before .before .before .before .before .args .s .now) (c .before .before .before .before .before .before .before .before .before .args .at + c .before .before .before .before .before .width .given .0 .1 .0) (c .before .place2 .given .0 .1 .0) (c .before .place2 .given .0 .0)
-fails c = lands _ _ _ _ (seek-none _ _ _ _ Quote (sym (c .before .before .before .seek-end .ensures) ∙ c .before .place2 .given .1))
+fails c = lands _ _ _ _ (seek-none _ _ _ _ Quote (sym (c .before .before .before .take-until .ensures) ∙ c .before .place2 .given .1))
 
 char-at-requires : tie.Need-char-at-requires
 char-at-requires c κs = search needs
@@ -36,11 +36,11 @@ char-at-requires c κs = search needs
 enum-known-width : tie.Need-enum-known-width
 enum-known-width c = search needs
 
-add-seek-end : tie.Need-add-seek-end
-add-seek-end c = omega (arith, here c)
+add-take-until : tie.Need-add-take-until
+add-take-until c = omega (arith, here c)
 
-seek-end-requires : tie.Need-seek-end-requires
-seek-end-requires c κs = search needs
+take-until-requires : tie.Need-take-until-requires
+take-until-requires c κs = search needs
 
 enum-known-place : tie.Need-enum-known-place
 enum-known-place c = search needs
@@ -71,11 +71,11 @@ lost-requires-2 c κs = search needs
 
 returns : tie.Need-returns
 unfolding escSkip
-returns c = let h = here (c .before .before .before .before .before) in let l = far (c .before) in rw (h .next, ← (h .width)) ((rw (← (l .rest)) at (c .quote-end .ensures)) ∙ ap (escPast _ _) (sym (c .before .before .place .given .1) ∙ c .before .before .before .before .seek-end .ensures))
+returns c = let h = here (c .before .before .before .before .before) in let l = far (c .before) in rw (h .next, ← (h .width)) ((rw (← (l .rest)) at (c .quote-end .ensures)) ∙ ap (escPast _ _) (sym (c .before .before .place .given .1) ∙ c .before .before .before .before .take-until .ensures))
 
 returns-2 : tie.Need-returns-2
 unfolding escSkip
-returns-2 c = let h = here (c .before .before .before .before .before) in rw (h .next, ← (h .width)) (c .lost .ensures ∙ ap (escPast _ (chars (drop (c .before .before .before .before .before .before .before .before .before .before .args .at + c .before .before .before .before .before .before .width .given .0 .1 .0) (c .before .before .before .before .before .before .before .before .before .before .args .s .now)))) (sym (c .before .before .place2 .given .1) ∙ c .before .before .before .before .seek-end .ensures))
+returns-2 c = let h = here (c .before .before .before .before .before) in rw (h .next, ← (h .width)) (c .lost .ensures ∙ ap (escPast _ (chars (drop (c .before .before .before .before .before .before .before .before .before .before .args .at + c .before .before .before .before .before .before .width .given .0 .1 .0) (c .before .before .before .before .before .before .before .before .before .before .args .s .now)))) (sym (c .before .before .place2 .given .1) ∙ c .before .before .before .before .take-until .ensures))
 
 returns-3 : tie.Need-returns-3
 unfolding escSkip
@@ -87,8 +87,8 @@ esc-skip-spec =
     (tie.spec
     char-at-requires
     enum-known-width
-    add-seek-end
-    seek-end-requires
+    add-take-until
+    take-until-requires
     enum-known-place
     add-quote-end
     add-quote-end-2

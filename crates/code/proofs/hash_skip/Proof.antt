@@ -17,14 +17,14 @@ use Rattle.code.proofs.hash_skip.Lts as lts
 use Rattle.code.proofs.body_skip.Reads as body-skip-reads
 use Rattle.code.proofs.lost.Reads as lost-reads
 use Rattle.code.proofs.skip_more.Reads as skip-more-reads
-use Rattle.scan.proofs.seek_end.Reads as seek-end-reads
+use Rattle.scan.proofs.take_until.Reads as take-until-reads
 
 -- the first character that is no hash
 far : (c : tie.After-known-told) → Lands (c .before .before .before .before .before .args .s .now) (c .before .before .before .before .before .args .at) (c .before .place .given .0 .1 .0) (c .before .place .given .0 .0)
-far c = lands _ _ _ _ (seek-at _ _ _ _ Hashes (sym (c .before .before .before .seek-end .ensures) ∙ c .before .place .given .1))
+far c = lands _ _ _ _ (seek-at _ _ _ _ Hashes (sym (c .before .before .before .take-until .ensures) ∙ c .before .place .given .1))
 
-seek-end-requires : tie.Need-seek-end-requires
-seek-end-requires c κs = search needs
+take-until-requires : tie.Need-take-until-requires
+take-until-requires c κs = search needs
 
 enum-known-place : tie.Need-enum-known-place
 enum-known-place c = search needs
@@ -42,16 +42,16 @@ lost-requires : tie.Need-lost-requires
 lost-requires c κs = search needs
 
 returns : tie.Need-returns
-returns c = let l = far (c .before .before) in c .skip-more .ensures ∙ ap (skipMore _) (rw (← (l .rest)) at (c .before .body-skip .ensures)) ∙ ap (hashPast _ _) (sym (c .before .before .before .place .given .1) ∙ c .before .before .before .before .before .seek-end .ensures)
+returns c = let l = far (c .before .before) in c .skip-more .ensures ∙ ap (skipMore _) (rw (← (l .rest)) at (c .before .body-skip .ensures)) ∙ ap (hashPast _ _) (sym (c .before .before .before .place .given .1) ∙ c .before .before .before .before .before .take-until .ensures)
 
 returns-2 : tie.Need-returns-2
-returns-2 c = c .lost .ensures ∙ ap (hashPast (c .before .before .before .before .before .before .args .o) (chars (drop (c .before .before .before .before .before .before .args .at) (c .before .before .before .before .before .before .args .s .now)))) (sym (c .before .before .place2 .given .1) ∙ c .before .before .before .before .seek-end .ensures)
+returns-2 c = c .lost .ensures ∙ ap (hashPast (c .before .before .before .before .before .before .args .o) (chars (drop (c .before .before .before .before .before .before .args .at) (c .before .before .before .before .before .before .args .s .now)))) (sym (c .before .before .place2 .given .1) ∙ c .before .before .before .before .take-until .ensures)
 
 pub hash-skip-spec : {M : Type 1} → statement M
 hash-skip-spec =
     tie.close
     (tie.spec
-    seek-end-requires
+    take-until-requires
     enum-known-place
     body-skip-requires
     skip-more-requires

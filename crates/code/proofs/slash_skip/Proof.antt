@@ -13,8 +13,8 @@ use Rattle.code.proofs.slash_skip.Tie as tie
 use Rattle.code.proofs.slash_skip.Reads as reads
 use Rattle.code.proofs.slash_skip.Lts as lts
 use Rattle.code.proofs.skip_more.Reads as skip-more-reads
-use Rattle.scan.proofs.block_skip.Reads as block-skip-reads
-use Rattle.scan.proofs.seek_end.Reads as seek-end-reads
+use Rattle.scan.proofs.block_comment.Reads as block-comment-reads
+use Rattle.scan.proofs.take_until.Reads as take-until-reads
 use Rattle.scan.proofs.up_to.Reads as up-to-reads
 use Rattle.utf8.proofs.char_at.Reads as char-at-reads
 
@@ -28,26 +28,26 @@ char-at-requires c κs = search needs
 enum-known-code : tie.Need-enum-known-code
 enum-known-code c = search needs
 
-seek-end-requires : tie.Need-seek-end-requires
-seek-end-requires c κs = search needs
+take-until-requires : tie.Need-take-until-requires
+take-until-requires c κs = search needs
 
 up-to-requires : tie.Need-up-to-requires
 up-to-requires c κs = search needs
 
 returns : tie.Need-returns
-returns c = let h = c .up-to .ensures ∙ ap upTo (c .before .seek-end .ensures) in rw (slash-on _ (here (c .before .before .before))) (search picks)
+returns c = let h = c .up-to .ensures ∙ ap upTo (c .before .take-until .ensures) in rw (slash-on _ (here (c .before .before .before))) (search picks)
 
-add-block-skip : tie.Need-add-block-skip
-add-block-skip c = omega (arith, here (c .before .before))
+add-block-comment : tie.Need-add-block-comment
+add-block-comment c = omega (arith, here (c .before .before))
 
-block-skip-requires : tie.Need-block-skip-requires
-block-skip-requires c κs = search needs
+block-comment-requires : tie.Need-block-comment-requires
+block-comment-requires c κs = search needs
 
 skip-more-requires : tie.Need-skip-more-requires
-skip-more-requires c κs = omega (arith, sound-fits (c .before .before .before .before .before .before .before .before .args .s .now) (c .before .before .before .before .before .before .before .before .args .at + c .before .before .before .before .code .given .0 .1 .0) (c .block-skip .ensures) (block-sound _ _ _))
+skip-more-requires c κs = omega (arith, sound-fits (c .before .before .before .before .before .before .before .before .args .s .now) (c .before .before .before .before .before .before .before .before .args .at + c .before .before .before .before .code .given .0 .1 .0) (c .block-comment .ensures) (block-sound _ _ _))
 
 returns-2 : tie.Need-returns-2
-returns-2 c = let h = c .skip-more .ensures ∙ ap (skipMore 1) (c .before .block-skip .ensures) in rw (slash-on _ (here (c .before .before .before .before))) (search picks)
+returns-2 c = let h = c .skip-more .ensures ∙ ap (skipMore 1) (c .before .block-comment .ensures) in rw (slash-on _ (here (c .before .before .before .before))) (search picks)
 
 enum-told : tie.Need-enum-told
 enum-told c = search needs
@@ -64,11 +64,11 @@ slash-skip-spec =
     (tie.spec
     char-at-requires
     enum-known-code
-    seek-end-requires
+    take-until-requires
     up-to-requires
     returns
-    add-block-skip
-    block-skip-requires
+    add-block-comment
+    block-comment-requires
     skip-more-requires
     returns-2
     enum-told

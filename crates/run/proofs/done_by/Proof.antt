@@ -1,6 +1,6 @@
 -- `run::done_by` meets its contract.
 use mathlib.Core.Path.{ap, sym}
-use Rattle.tok.specs.Run.{doneBy}
+use Rattle.reading.specs.Run.{doneBy}
 use borrow.Author.Needs.{needs}
 use Rattle.run.proofs.done_by.Statement.{statement}
 use Rattle.run.proofs.done_by.Tie as tie

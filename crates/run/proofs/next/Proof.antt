@@ -43,15 +43,15 @@ use denote.Triple.Table.{entered, cited}
 use denote.Triple.Walked.{says, Stays, stay-ref, stay-none, stay-none-slice, walkOf, goes-ref, goes-none, goes-none-slice, Walks, ends-at, walked, walk-meets}
 use denote.Exit.{yes}
 use Rattle.run.specs.Checked.{nextToken}
-use Rattle.tok.specs.declared.Tokenizer.{Tokenizer}
-use Rattle.tok.specs.declared.Stepped.{Stepped}
-use Rattle.tok.specs.declared.What.{What}
-use Rattle.tok.proofs.Tokenizer as T
-use Rattle.tok.proofs.Tokenizer.Laws as T′
-use Rattle.tok.proofs.Stepped as S
-use Rattle.tok.proofs.Stepped.Laws as S′
-use Rattle.tok.proofs.What as N
-use Rattle.tok.proofs.What.Laws as N′
+use Rattle.reading.specs.declared.Tokenizer.{Tokenizer}
+use Rattle.reading.specs.declared.Stepped.{Stepped}
+use Rattle.reading.specs.declared.What.{What}
+use Rattle.reading.proofs.Tokenizer as T
+use Rattle.reading.proofs.Tokenizer.Laws as T′
+use Rattle.reading.proofs.Stepped as S
+use Rattle.reading.proofs.Stepped.Laws as S′
+use Rattle.reading.proofs.What as N
+use Rattle.reading.proofs.What.Laws as N′
 use Rattle.run.proofs.next_token as step
 use Rattle.run.proofs.next_token.Symbol as step-def
 use Rattle.run.proofs.next_token.Symbol.{name as #run·next-token}

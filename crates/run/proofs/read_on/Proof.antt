@@ -2,7 +2,7 @@
 use mathlib.Core.Path.{ap, refl, sym, _∙_}
 use native.Mathlib.Omega.{arith}
 use Rattle.utf8.specs.Picks.{flags, tests}
-use Rattle.tok.specs.Run.{doneBy, shiftWhat}
+use Rattle.reading.specs.Run.{doneBy, shiftWhat}
 use Rattle.run.specs.Steps.{call-roomy}
 use borrow.Author.Needs.{needs}
 use Rattle.run.proofs.read_on.Statement.{statement}

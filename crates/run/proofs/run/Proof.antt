@@ -49,7 +49,7 @@ use denote.Triple.Walked.{says, Stays, stay-slice, stay-none, stay-none-slice, w
 use denote.Exit.{yes}
 use Rattle.record.specs.Records.{over}
 use Rattle.record.specs.declared.Token.{Token}
-use Rattle.tok.specs.declared.Tokenizer.{Tokenizer}
+use Rattle.reading.specs.declared.Tokenizer.{Tokenizer}
 use Rattle.run.specs.Checked.{ranOf, wholeRun}
 use Rattle.run.specs.Pending.{advanceOf, beginOf}
 use Rattle.run.specs.Room.{Onward}
@@ -57,8 +57,8 @@ use Rattle.run.specs.declared.Pending.{Pending}
 use Rattle.run.specs.declared.Ran.{Ran}
 use Rattle.record.proofs.Token as K
 use Rattle.record.proofs.Token.Laws as K′
-use Rattle.tok.proofs.Tokenizer as T
-use Rattle.tok.proofs.Tokenizer.Laws as T′
+use Rattle.reading.proofs.Tokenizer as T
+use Rattle.reading.proofs.Tokenizer.Laws as T′
 use Rattle.run.proofs.Pending as P
 use Rattle.run.proofs.Pending.Laws as P′
 use Rattle.run.proofs.Ran as R

@@ -4,7 +4,7 @@ use native.Mathlib.Omega.{arith}
 use mathlib.Core.Path.{_≡_, refl, ap, _∙_}
 use lib.ListN.{length}
 use lib.Seq.{length-sets}
-use Rattle.tok.specs.declared.Tokenizer.{Tokenizer}
+use Rattle.reading.specs.declared.Tokenizer.{Tokenizer}
 use Rattle.run.specs.Numbers.{groupSize}
 use Rattle.run.specs.Pending.{beginOf}
 use Rattle.run.specs.declared.Pending.{Pending}

@@ -1,8 +1,8 @@
 -- `run::shift_what` meets its contract.
 use mathlib.Core.Path.{ap, sym, _∙_}
 use native.Mathlib.Omega.{arith}
-use Rattle.tok.specs.Run.{shiftWhat}
-use Rattle.tok.specs.declared.What.the-variants.{Got}
+use Rattle.reading.specs.Run.{shiftWhat}
+use Rattle.reading.specs.declared.What.the-variants.{Got}
 use Rattle.run.specs.Room.{Roomy}
 use borrow.Author.Needs.{needs}
 use Rattle.run.proofs.shift_what.Statement.{statement}

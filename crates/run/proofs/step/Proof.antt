@@ -1,6 +1,6 @@
 -- `run::step` meets its contract.
 use mathlib.Core.Path.{ap, sym, _∙_}
-use Rattle.tok.specs.Run.{step}
+use Rattle.reading.specs.Run.{step}
 use Rattle.run.specs.Steps.{step-running}
 use borrow.Author.Needs.{needs}
 use Rattle.run.proofs.step.Statement.{statement}

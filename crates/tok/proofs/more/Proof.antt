@@ -1,6 +1,6 @@
 -- `tok::more` meets its contract.
 use mathlib.Core.Path.{refl}
-use Rattle.tok.specs.Answers.{more}
+use Rattle.reading.specs.Answers.{more}
 use borrow.Author.Needs.{needs}
 use Rattle.tok.proofs.more.Statement.{statement}
 use Rattle.tok.proofs.more.Tie as tie

@@ -10,8 +10,8 @@ use Rattle.utf8.specs.Utf8.{chars}
 use Rattle.scan.specs.IfNext.{next-room, nexts}
 use Rattle.scan.specs.Walk.{walk}
 use Rattle.scan.specs.declared.Skip.the-variants.{Past}
-use Rattle.tok.specs.Attribute.{attributeLast, attributeTurn}
-use Rattle.tok.specs.Sights.{body-at, body-lands, body-lost}
+use Rattle.reading.specs.Attribute.{attributeLast, attributeTurn}
+use Rattle.reading.specs.Sights.{body-at, body-lands, body-lost}
 use Rattle.tok.proofs.attribute.attempt_body.Statement.{statement}
 use Rattle.tok.proofs.attribute.attempt_body.Tie as tie
 

@@ -5,7 +5,7 @@ use native.Mathlib.Omega.{arith}
 use borrow.Author.Needs.{needs}
 use Rattle.utf8.specs.Laws.{Seen, ended, seen}
 use Rattle.utf8.specs.Picks.{picks}
-use Rattle.tok.specs.Attribute.{attemptMore, attemptBracket}
+use Rattle.reading.specs.Attribute.{attemptMore, attemptBracket}
 use Rattle.tok.specs.Fits.{advancesOf, body-most}
 use Rattle.tok.proofs.attribute.attempt_bracket.Statement.{statement}
 use Rattle.tok.proofs.attribute.attempt_bracket.Tie as tie

@@ -6,8 +6,8 @@ use lib.ListN.{drop, length}
 use borrow.Author.Needs.{needs}
 use Rattle.utf8.specs.Utf8.{chars}
 use Rattle.scan.specs.Walk.{walkFrom}
-use Rattle.tok.specs.Attribute.{attributeLast, attributeTurn}
-use Rattle.tok.specs.Sights.{attribute-on}
+use Rattle.reading.specs.Attribute.{attributeLast, attributeTurn}
+use Rattle.reading.specs.Sights.{attribute-on}
 use Rattle.tok.proofs.attribute.attribute_run.Statement.{statement}
 use Rattle.tok.proofs.attribute.attribute_run.Tie as tie
 

@@ -1,7 +1,7 @@
 -- `tok::attribute::attribute_token` meets its contract.
 use borrow.Author.Needs.{needs}
-use Rattle.tok.specs.Answers.{deliver}
-use Rattle.tok.specs.Attribute.{attributeToken}
+use Rattle.reading.specs.Answers.{deliver}
+use Rattle.reading.specs.Attribute.{attributeToken}
 use Rattle.tok.proofs.attribute.attribute_token.Statement.{statement}
 use Rattle.tok.proofs.attribute.attribute_token.Tie as tie
 

@@ -3,7 +3,7 @@ use mathlib.Core.Path.{ap, _∙_}
 use borrow.Author.Needs.{needs}
 use Rattle.utf8.specs.Picks.{picks}
 use Rattle.scan.specs.Walk.{turnOf}
-use Rattle.tok.specs.Attribute.{attributeTurn}
+use Rattle.reading.specs.Attribute.{attributeTurn}
 use Rattle.tok.proofs.attribute.attribute_turn.Statement.{statement}
 use Rattle.tok.proofs.attribute.attribute_turn.Tie as tie
 

@@ -10,9 +10,9 @@ use Rattle.utf8.specs.Utf8.{chars}
 use Rattle.scan.specs.Far.{Lands, lands}
 use Rattle.scan.specs.Turns.{walk-end, walk-fail, walk-pass, walk-stop}
 use Rattle.scan.specs.Walk.{walk, walkFrom}
-use Rattle.tok.specs.Attribute.{attributeLast, attributeTurn}
-use Rattle.tok.specs.Passes.{attribute-balance, attribute-good}
-use Rattle.tok.specs.Sights.{balance-pass, good-fail, good-pass}
+use Rattle.reading.specs.Attribute.{attributeLast, attributeTurn}
+use Rattle.reading.specs.Passes.{attribute-balance, attribute-good}
+use Rattle.reading.specs.Sights.{balance-pass, good-fail, good-pass}
 use Rattle.tok.proofs.attribute.body_end.Statement.{statement}
 use Rattle.tok.proofs.attribute.body_end.Tie as tie
 

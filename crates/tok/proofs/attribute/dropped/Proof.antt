@@ -4,7 +4,7 @@ use native.Mathlib.Omega.{arith}
 use borrow.Author.Needs.{needs}
 use Rattle.utf8.specs.Laws.{Seen, ended, seen}
 use Rattle.scan.specs.Far.{after}
-use Rattle.tok.specs.Attribute.{dropped}
+use Rattle.reading.specs.Attribute.{dropped}
 use Rattle.tok.proofs.attribute.dropped.Statement.{statement}
 use Rattle.tok.proofs.attribute.dropped.Tie as tie
 

@@ -5,11 +5,11 @@ use native.Mathlib.Omega.{arith}
 use lib.ListN.{drop}
 use borrow.Author.Needs.{needs}
 use Rattle.utf8.specs.Utf8.{chars}
-use Rattle.tok.specs.Answers.{more}
-use Rattle.tok.specs.Attribute.{attributeToken, hash, hashBy}
+use Rattle.reading.specs.Answers.{more}
+use Rattle.reading.specs.Attribute.{attributeToken, hash, hashBy}
 use Rattle.tok.specs.Fits.{advancesOf, attempt-most, dropped-most}
-use Rattle.tok.specs.Steps.{hash-closed}
-use Rattle.tok.specs.declared.Call.{Call}
+use Rattle.reading.specs.Steps.{hash-closed}
+use Rattle.reading.specs.declared.Call.{Call}
 use Rattle.tok.proofs.attribute.hash.Statement.{statement}
 use Rattle.tok.proofs.attribute.hash.Tie as tie
 

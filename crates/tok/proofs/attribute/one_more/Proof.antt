@@ -2,7 +2,7 @@
 use mathlib.Core.Path.{ap, sym}
 use native.Mathlib.Omega.{arith}
 use borrow.Author.Needs.{needs}
-use Rattle.tok.specs.Attribute.{attemptMore}
+use Rattle.reading.specs.Attribute.{attemptMore}
 use Rattle.tok.specs.Fits.{advancesOf}
 use Rattle.tok.proofs.attribute.one_more.Statement.{statement}
 use Rattle.tok.proofs.attribute.one_more.Tie as tie

@@ -5,7 +5,7 @@ use native.Mathlib.Omega.{arith}
 use borrow.Author.Needs.{needs}
 use Rattle.utf8.specs.Laws.{Seen, ended, seen}
 use Rattle.utf8.specs.Picks.{picks}
-use Rattle.tok.specs.Attribute.{attemptMore, attempt}
+use Rattle.reading.specs.Attribute.{attemptMore, attempt}
 use Rattle.tok.specs.Fits.{advancesOf, bracket-most}
 use Rattle.tok.proofs.attribute.shebang_attribute.Statement.{statement}
 use Rattle.tok.proofs.attribute.shebang_attribute.Tie as tie

@@ -6,7 +6,7 @@ use Rattle.utf8.specs.Laws.{Seen, seen, ended}
 use Rattle.utf8.specs.Picks.{picks}
 use Rattle.scan.specs.Seek.{upTo}
 use Rattle.scan.specs.Walk.{turnOf}
-use Rattle.tok.specs.Steps.{comment-end, comment-on}
+use Rattle.reading.specs.Steps.{comment-end, comment-on}
 use Rattle.tok.proofs.gaps.comment_turn.Statement.{statement}
 use Rattle.tok.proofs.gaps.comment_turn.Tie as tie
 
@@ -19,8 +19,8 @@ char-at-requires c κs = search needs
 enum-known-code : tie.Need-enum-known-code
 enum-known-code c = search needs
 
-seek-end-requires : tie.Need-seek-end-requires
-seek-end-requires c κs = search needs
+take-until-requires : tie.Need-take-until-requires
+take-until-requires c κs = search needs
 
 up-to-requires : tie.Need-up-to-requires
 up-to-requires c κs = search needs
@@ -29,7 +29,7 @@ to-turn-requires : tie.Need-to-turn-requires
 to-turn-requires c κs = search needs
 
 returns : tie.Need-returns
-returns c = let h = c .to-turn .ensures ∙ ap (turnOf 0) (c .before .up-to .ensures ∙ ap upTo (c .before .before .seek-end .ensures)) in rw (comment-on _ (here (c .before .before .before .before))) (search picks)
+returns c = let h = c .to-turn .ensures ∙ ap (turnOf 0) (c .before .up-to .ensures ∙ ap upTo (c .before .before .take-until .ensures)) in rw (comment-on _ (here (c .before .before .before .before))) (search picks)
 
 add-block-turn : tie.Need-add-block-turn
 add-block-turn c = omega (arith, here (c .before .before))
@@ -55,7 +55,7 @@ comment-turn-spec =
     (tie.spec
     char-at-requires
     enum-known-code
-    seek-end-requires
+    take-until-requires
     up-to-requires
     to-turn-requires
     returns

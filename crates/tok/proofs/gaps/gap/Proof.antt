@@ -10,8 +10,8 @@ use Rattle.utf8.specs.Laws.{Seen, seen, ended}
 use Rattle.scan.specs.Far.{Lands, lands}
 use Rattle.scan.specs.Turns.{walk-end, walk-fail, walk-pass, walk-stop}
 use Rattle.scan.specs.Walk.{walkFrom}
-use Rattle.tok.specs.Gaps.{gap, gapLast, gapTurn}
-use Rattle.tok.specs.Steps.{gap-fail, gap-pass, gap-run, gap-state}
+use Rattle.reading.specs.Gaps.{gap, gapLast, gapTurn}
+use Rattle.reading.specs.Steps.{gap-fail, gap-pass, gap-run, gap-state}
 use Rattle.tok.proofs.gaps.gap.Statement.{statement}
 use Rattle.tok.proofs.gaps.gap.Tie as tie
 

@@ -6,7 +6,7 @@ use native.Mathlib.Omega.{arith}
 use lib.ListN.{length, drop, getD}
 use borrow.Author.Needs.{needs}
 use Rattle.scan.specs.Runs.{run, run-on, run-past, run-stop}
-use Rattle.tok.specs.Steps.{gapStop, gap-far, gap-near}
+use Rattle.reading.specs.Steps.{gapStop, gap-far, gap-near}
 use Rattle.tok.proofs.gaps.gap_run.Statement.{statement}
 use Rattle.tok.proofs.gaps.gap_run.Tie as tie
 

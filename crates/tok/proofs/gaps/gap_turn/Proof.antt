@@ -1,7 +1,7 @@
 -- `tok::gaps::gap_turn` meets its contract.
 use borrow.Author.Needs.{needs}
 use Rattle.utf8.specs.Picks.{flags}
-use Rattle.tok.specs.Gaps.{gapTurn}
+use Rattle.reading.specs.Gaps.{gapTurn}
 use Rattle.tok.proofs.gaps.gap_turn.Statement.{statement}
 use Rattle.tok.proofs.gaps.gap_turn.Tie as tie
 

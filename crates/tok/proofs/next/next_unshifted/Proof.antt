@@ -3,9 +3,9 @@ use mathlib.Core.Path.{sym, ap, _∙_}
 use native.Mathlib.Omega.{arith}
 use borrow.Author.Needs.{needs}
 use Rattle.scan.specs.Passes.{sound-fits}
-use Rattle.tok.specs.Answers.{more}
-use Rattle.tok.specs.Passes.{gap-sound}
-use Rattle.tok.specs.Steps.{next-gap, next-lost, token-fits}
+use Rattle.reading.specs.Answers.{more}
+use Rattle.reading.specs.Passes.{gap-sound}
+use Rattle.reading.specs.Steps.{next-gap, next-lost, token-fits}
 use Rattle.tok.proofs.next.next_unshifted.Statement.{statement}
 use Rattle.tok.proofs.next.next_unshifted.Tie as tie
 

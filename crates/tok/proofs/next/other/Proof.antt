@@ -3,8 +3,8 @@ use mathlib.Core.Path.{ap, _∙_}
 use native.Mathlib.Omega.{arith}
 use borrow.Author.Needs.{needs}
 use Rattle.utf8.specs.Picks.{flags}
-use Rattle.tok.specs.Answers.{more}
-use Rattle.tok.specs.Calls.{identifier-fair}
+use Rattle.reading.specs.Answers.{more}
+use Rattle.reading.specs.Calls.{identifier-fair}
 use Rattle.tok.specs.Fits.{fair-fits}
 use Rattle.tok.proofs.next.other.Statement.{statement}
 use Rattle.tok.proofs.next.other.Tie as tie

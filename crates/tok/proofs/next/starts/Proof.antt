@@ -3,11 +3,11 @@ use mathlib.Core.Path.{sym, ap, _∙_}
 use native.Mathlib.Omega.{arith}
 use borrow.Author.Needs.{needs}
 use Rattle.scan.specs.Until.{left}
-use Rattle.tok.specs.Answers.{more}
-use Rattle.tok.specs.Calls.{bang-fair, colon-fair, dot-fair, equals-fair, escape-fair, fair-half, lifetimeish-fair, look-fair, minus-fair, r-fair, string-fair, tilde-fair}
+use Rattle.reading.specs.Answers.{more}
+use Rattle.reading.specs.Calls.{bang-fair, colon-fair, dot-fair, equals-fair, escape-fair, fair-half, lifetimeish-fair, look-fair, minus-fair, r-fair, string-fair, tilde-fair}
 use Rattle.tok.specs.Fits.{fair-fits}
-use Rattle.tok.specs.Next.{starts}
-use Rattle.tok.specs.Steps.{starts-other}
+use Rattle.reading.specs.Next.{starts}
+use Rattle.reading.specs.Steps.{starts-other}
 use Rattle.tok.proofs.next.starts.Statement.{statement}
 use Rattle.tok.proofs.next.starts.Tie as tie
 

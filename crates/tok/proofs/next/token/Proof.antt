@@ -3,10 +3,10 @@ use mathlib.Core.Path.{sym, ap, _∙_}
 use native.Mathlib.Omega.{arith}
 use borrow.Author.Needs.{needs}
 use Rattle.scan.specs.Until.{left}
-use Rattle.tok.specs.Answers.{more}
-use Rattle.tok.specs.Next.{token}
-use Rattle.tok.specs.Steps.{hash-fits, token-starts}
-use Rattle.tok.specs.Symbols.{single, singles}
+use Rattle.reading.specs.Answers.{more}
+use Rattle.reading.specs.Next.{token}
+use Rattle.reading.specs.Steps.{hash-fits, token-starts}
+use Rattle.reading.specs.Symbols.{single, singles}
 use Rattle.tok.proofs.next.token.Statement.{statement}
 use Rattle.tok.proofs.next.token.Tie as tie
 

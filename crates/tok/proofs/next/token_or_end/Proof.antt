@@ -3,7 +3,7 @@ use mathlib.Core.Path.{sym, _∙_}
 use native.Mathlib.Omega.{arith}
 use borrow.Author.Needs.{needs}
 use Rattle.utf8.specs.Laws.{Seen, ended, seen}
-use Rattle.tok.specs.Steps.{token-end, token-on}
+use Rattle.reading.specs.Steps.{token-end, token-on}
 use Rattle.tok.proofs.next.token_or_end.Statement.{statement}
 use Rattle.tok.proofs.next.token_or_end.Tie as tie
 

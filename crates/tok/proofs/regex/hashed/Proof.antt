@@ -6,10 +6,10 @@ use borrow.Author.Needs.{needs}
 use Rattle.utf8.specs.Laws.{Seen, ended, seen}
 use Rattle.utf8.specs.Picks.{flags}
 use Rattle.scan.specs.Until.{left}
-use Rattle.tok.specs.Answers.{more}
-use Rattle.tok.specs.Calls.{identifier-fair, regex-fair}
+use Rattle.reading.specs.Answers.{more}
+use Rattle.reading.specs.Calls.{identifier-fair, regex-fair}
 use Rattle.tok.specs.Fits.{fair-fits}
-use Rattle.tok.specs.Steps.{hashed-end, hashed-on}
+use Rattle.reading.specs.Steps.{hashed-end, hashed-on}
 use Rattle.tok.proofs.regex.hashed.Statement.{statement}
 use Rattle.tok.proofs.regex.hashed.Tie as tie
 

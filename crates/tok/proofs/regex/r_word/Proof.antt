@@ -1,7 +1,7 @@
 -- `tok::regex::r_word` meets its contract.
 use borrow.Author.Needs.{needs}
 use Rattle.scan.specs.IfNext.{nexts}
-use Rattle.tok.specs.Regex.{rWord}
+use Rattle.reading.specs.Regex.{rWord}
 use Rattle.tok.proofs.regex.r_word.Statement.{statement}
 use Rattle.tok.proofs.regex.r_word.Tie as tie
 

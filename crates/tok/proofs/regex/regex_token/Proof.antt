@@ -4,8 +4,8 @@ use native.Mathlib.Omega.{arith}
 use borrow.Author.Needs.{needs}
 use Rattle.scan.specs.Far.{closed-within, lands}
 use Rattle.scan.specs.Passes.{regex-past}
-use Rattle.tok.specs.Regex.{regexBy, regexToken}
-use Rattle.tok.specs.Steps.{regex-hashes}
+use Rattle.reading.specs.Regex.{regexBy, regexToken}
+use Rattle.reading.specs.Steps.{regex-hashes}
 use Rattle.tok.proofs.regex.regex_token.Statement.{statement}
 use Rattle.tok.proofs.regex.regex_token.Tie as tie
 

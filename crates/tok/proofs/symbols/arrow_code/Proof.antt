@@ -1,20 +1,20 @@
 -- `tok::symbols::arrow_code` meets its contract.
 use mathlib.Core.Path.{ap, _∙_}
 use borrow.Author.Needs.{needs}
-use Rattle.tok.specs.Symbols.{arrowCode}
-use Rattle.tok.specs.Words.{codeToken}
+use Rattle.reading.specs.Symbols.{arrowCode}
+use Rattle.reading.specs.Words.{codeToken}
 use Rattle.tok.proofs.symbols.arrow_code.Statement.{statement}
 use Rattle.tok.proofs.symbols.arrow_code.Tie as tie
 
-code-end-requires : tie.Need-code-end-requires
-code-end-requires c κs = search needs
+code-requires : tie.Need-code-requires
+code-requires c κs = search needs
 
 code-token-requires : tie.Need-code-token-requires
 code-token-requires c κs = search needs
 
 returns : tie.Need-returns
 unfolding arrowCode
-returns c = c .code-token .ensures ∙ ap (codeToken _ _ _) (c .before .code-end .ensures)
+returns c = c .code-token .ensures ∙ ap (codeToken _ _ _) (c .before .code .ensures)
 
 pub arrow-code-spec : {M : Type 1} → statement M
-arrow-code-spec = tie.close (tie.spec code-end-requires code-token-requires returns)
+arrow-code-spec = tie.close (tie.spec code-requires code-token-requires returns)

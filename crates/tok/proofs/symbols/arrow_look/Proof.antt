@@ -2,7 +2,7 @@
 use mathlib.Core.Path.{ap, _∙_}
 use borrow.Author.Needs.{needs}
 use Rattle.scan.specs.IfNext.{ifNext}
-use Rattle.tok.specs.Symbols.{arrowLook}
+use Rattle.reading.specs.Symbols.{arrowLook}
 use Rattle.tok.proofs.symbols.arrow_look.Statement.{statement}
 use Rattle.tok.proofs.symbols.arrow_look.Tie as tie
 

@@ -2,7 +2,7 @@
 use mathlib.Core.Path.{ap, _∙_}
 use borrow.Author.Needs.{needs}
 use Rattle.scan.specs.IfNext.{ifNext}
-use Rattle.tok.specs.Symbols.{bang}
+use Rattle.reading.specs.Symbols.{bang}
 use Rattle.tok.proofs.symbols.bang.Statement.{statement}
 use Rattle.tok.proofs.symbols.bang.Tie as tie
 

@@ -2,7 +2,7 @@
 use mathlib.Core.Path.{ap, _∙_}
 use borrow.Author.Needs.{needs}
 use Rattle.scan.specs.IfNext.{ifNext}
-use Rattle.tok.specs.Symbols.{colon}
+use Rattle.reading.specs.Symbols.{colon}
 use Rattle.tok.proofs.symbols.colon.Statement.{statement}
 use Rattle.tok.proofs.symbols.colon.Tie as tie
 

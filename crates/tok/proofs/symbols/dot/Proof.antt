@@ -2,7 +2,7 @@
 use mathlib.Core.Path.{ap, _∙_}
 use borrow.Author.Needs.{needs}
 use Rattle.scan.specs.IfNext.{ifNext}
-use Rattle.tok.specs.Symbols.{dot}
+use Rattle.reading.specs.Symbols.{dot}
 use Rattle.tok.proofs.symbols.dot.Statement.{statement}
 use Rattle.tok.proofs.symbols.dot.Tie as tie
 

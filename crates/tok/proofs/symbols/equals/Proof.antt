@@ -7,10 +7,10 @@ use borrow.Author.Needs.{needs}
 use Rattle.utf8.specs.Chars.{'=, '>}
 use Rattle.utf8.specs.Utf8.{widthOf}
 use Rattle.scan.specs.IfNext.{next-room, nexts}
-use Rattle.tok.specs.Answers.{more}
-use Rattle.tok.specs.Calls.{arrow-fair}
+use Rattle.reading.specs.Answers.{more}
+use Rattle.reading.specs.Calls.{arrow-fair}
 use Rattle.tok.specs.Fits.{fair-fits, next-drop}
-use Rattle.tok.specs.Symbols.{equals, rightArrow}
+use Rattle.reading.specs.Symbols.{equals, rightArrow}
 use Rattle.tok.proofs.symbols.equals.Statement.{statement}
 use Rattle.tok.proofs.symbols.equals.Tie as tie
 

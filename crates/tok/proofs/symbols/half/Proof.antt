@@ -1,6 +1,6 @@
 -- `tok::symbols::half` meets its contract.
 use borrow.Author.Needs.{needs}
-use Rattle.tok.specs.Symbols.{half}
+use Rattle.reading.specs.Symbols.{half}
 use Rattle.tok.proofs.symbols.half.Statement.{statement}
 use Rattle.tok.proofs.symbols.half.Tie as tie
 

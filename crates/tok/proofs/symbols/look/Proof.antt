@@ -2,7 +2,7 @@
 use mathlib.Core.Path.{ap, _∙_}
 use borrow.Author.Needs.{needs}
 use Rattle.scan.specs.IfNext.{ifNext}
-use Rattle.tok.specs.Symbols.{look}
+use Rattle.reading.specs.Symbols.{look}
 use Rattle.tok.proofs.symbols.look.Statement.{statement}
 use Rattle.tok.proofs.symbols.look.Tie as tie
 

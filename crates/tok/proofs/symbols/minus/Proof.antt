@@ -2,7 +2,7 @@
 use mathlib.Core.Path.{ap, _∙_}
 use borrow.Author.Needs.{needs}
 use Rattle.scan.specs.IfNext.{ifNext}
-use Rattle.tok.specs.Symbols.{minus}
+use Rattle.reading.specs.Symbols.{minus}
 use Rattle.tok.proofs.symbols.minus.Statement.{statement}
 use Rattle.tok.proofs.symbols.minus.Tie as tie
 

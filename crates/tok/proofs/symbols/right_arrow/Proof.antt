@@ -5,10 +5,10 @@ use native.Mathlib.Omega.{arith}
 use borrow.Author.Needs.{needs}
 use Rattle.utf8.specs.Laws.{Seen, ended, seen}
 use Rattle.utf8.specs.Picks.{picks}
-use Rattle.tok.specs.Answers.{more}
-use Rattle.tok.specs.Calls.{arrow-code-fair, arrow-look-fair}
+use Rattle.reading.specs.Answers.{more}
+use Rattle.reading.specs.Calls.{arrow-code-fair, arrow-look-fair}
 use Rattle.tok.specs.Fits.{fair-fits}
-use Rattle.tok.specs.Sights.{arrow-end, arrow-on}
+use Rattle.reading.specs.Sights.{arrow-end, arrow-on}
 use Rattle.tok.proofs.symbols.right_arrow.Statement.{statement}
 use Rattle.tok.proofs.symbols.right_arrow.Tie as tie
 

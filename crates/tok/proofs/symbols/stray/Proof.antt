@@ -1,6 +1,6 @@
 -- `tok::symbols::stray` meets its contract.
 use borrow.Author.Needs.{needs}
-use Rattle.tok.specs.Symbols.{stray}
+use Rattle.reading.specs.Symbols.{stray}
 use Rattle.tok.proofs.symbols.stray.Statement.{statement}
 use Rattle.tok.proofs.symbols.stray.Tie as tie
 

@@ -2,7 +2,7 @@
 use mathlib.Core.Path.{ap, _∙_}
 use borrow.Author.Needs.{needs}
 use Rattle.scan.specs.IfNext.{ifNext}
-use Rattle.tok.specs.Symbols.{tilde}
+use Rattle.reading.specs.Symbols.{tilde}
 use Rattle.tok.proofs.symbols.tilde.Statement.{statement}
 use Rattle.tok.proofs.symbols.tilde.Tie as tie
 

@@ -1,0 +1,2 @@
+-- laws that the code cites; the definitions stand in `reading`
+pub mod Letters
