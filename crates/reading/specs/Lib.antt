@@ -18,5 +18,6 @@ pub mod CallLaw
 pub mod Story
 pub mod Sums
 pub mod Steps
+pub mod Reached
 pub mod Inside
 pub mod Sights
