@@ -1,6 +1,10 @@
--- what a reader must believe
+-- what a reader must believe: demand 3, and what every run keeps
+pub mod Spent
+pub mod Books
 pub mod Order
 pub mod Payloads
 pub mod Written
-
+pub mod Examples
 -- the laws that lead there
+pub mod Codes
+pub mod Runs

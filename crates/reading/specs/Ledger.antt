@@ -1,16 +1,19 @@
--- THE BOOKS CLOSE. Of every run from a running tokenizer, and so of one from the start of a text.
+-- THE BOOKS CLOSE. Of every run from a running tokenizer, and so of one from the start of a text; ledger/specs/Books says the same of what
+-- `run::run` answers.
 use Prim.Native.Nat.{_*_, _+_, _-_, _<_, _≤_, suc, ℕ}
 use native.Mathlib.Omega.{arith}
-use mathlib.Core.List.{List, _∷_}
+use mathlib.Core.List.{List, [], _∷_}
 use mathlib.Core.Path.{_∙_, _≡_, ap, refl, sym}
 use lib.ListN.{drop, length, take, take-append-drop}
-use lib.Seq.{drop-drop}
+use lib.Seq.{drop-drop, drop-length, take-length}
 use Rattle.utf8.specs.Utf8.{chars, reach}
 use Rattle.record.specs.declared.Token.{Token}
 use Rattle.scan.specs.Far.{Far, far-left, short}
 use Rattle.scan.specs.Until.{left}
 use Rattle.scan.specs.declared.Skip.the-variants.{Past}
 use Rattle.reading.specs.Answers.{startState}
+use Rattle.reading.specs.Blank.{Blank}
+use Rattle.reading.specs.Blanks.{gap-blank}
 use Rattle.reading.specs.CallLaw.{Placed}
 use Rattle.reading.specs.Gaps.{gap}
 use Rattle.reading.specs.Measures.{Tiled, attempts, gap-last, hashes, marks, tailOf, token-next}
@@ -36,11 +39,18 @@ lay-token s shift at t p n h ts rest =
     token-next {cs = cs} {at = at} {t = shiftToken shift t} {ts = ts} (take g cs) (take w (drop g cs)) (take d (drop w (drop g cs))) (drop d (drop w (drop g cs)))
     (rw (take-append-drop d (drop w (drop g cs)), take-append-drop w (drop g cs), take-append-drop g cs))
     (rw (far-length cs at g (t .start) (h .gap-far), ← a) (h .gap-is))
+    (rw (take-append-drop d (drop w (drop g cs)), take-append-drop w (drop g cs)) (gap-blank cs at (t .start) g (h .gap-is)))
     (ap (λ (j : ℕ). j + shift) a)
     (rw (← a, ← b))
     (rw (far-length (drop g cs) (t .start) w (t .end) (h .span)) (h .some))
     (rw (far-length (drop w (drop g cs)) (t .end) d p (h .tail), take-append-drop d (drop w (drop g cs))))
     (rw (← a, ← b, ← c, q) rest)
+
+-- the last gap, up to the end
+all-blank : (cs : List ℕ) (at p : ℕ) → gap cs at ≡ Past p (length cs) → Blank [] cs
+all-blank cs at p e =
+    let h : Blank (drop (length cs) cs) cs = rw (take-length cs) at (gap-blank cs at p (length cs) e) in
+    rw (drop-length cs) at h
 
 pub data Settled (r : Run) : Type 0 where
   is-done : r .state .done ≡ r .how → Settled r
@@ -87,7 +97,7 @@ module _ (s : List ℕ) (shift : ℕ) where
   tiles {k} {at} (finished p g e c nr sd) h =
       let f : Far (left s at) at (length (left s at)) p = (rw g at (gap-sound (left s at) at)) .is in
       let z : gap (left s at) at ≡ Past (reach (left s at) at) (length (left s at)) = rw (far-whole (left s at) at p f) at g in
-      rw e (gap-last z)
+      rw e (gap-last z (all-blank (left s at) at p g))
   tiles {k} {at} {count} {r} (took t p n r′ pl st e) h =
       let i = tiles st (ap (λ (x : Run). x .how) (sym e) ∙ h) in
       rw e (lay-token s shift at t p n pl (r′ .tokens) i)

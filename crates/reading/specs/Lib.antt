@@ -9,12 +9,14 @@ pub mod Attribute
 pub mod Next
 pub mod Run
 pub mod Marked
+pub mod Blank
 pub mod Measures
 pub mod Ledger
 -- the laws that lead there, and those that the code cites
 pub mod Passes
 pub mod Calls
 pub mod CallLaw
+pub mod Blanks
 pub mod Story
 pub mod Sums
 pub mod Steps

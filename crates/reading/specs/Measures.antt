@@ -13,6 +13,7 @@ use Rattle.record.specs.declared.Token.{Token}
 use Rattle.scan.specs.IfNext.{ifNext}
 use Rattle.scan.specs.declared.Skip.the-variants.{Past}
 use Rattle.reading.specs.Attribute.{attempt, dropped}
+use Rattle.reading.specs.Blank.{Blank}
 use Rattle.reading.specs.Gaps.{gap}
 use Rattle.reading.specs.declared.Attempt.{Attempt}
 use Rattle.reading.specs.declared.Attempt.the-variants.{Closed, Failed}
@@ -59,12 +60,14 @@ unfoldable pub marks : List ℕ → ℕ
 marks [] = 0
 marks (c ∷ cs) = cond (readsAttribute (c ∷ cs)) 1 0 + marks cs
 
--- The characters cs, from the place at, are tiled by the tokens: a gap xs, which the gap's reader passes, then the token's characters
--- ys, at least one, then what is dropped after it, zs (one character after an attribute, if there is one; else none); and so on; at last a gap.
+-- The characters cs, from the place at, are tiled by the tokens: a gap xs, which holds whitespace and comments only and is all that the gap's
+-- reader passes, then the token's characters ys, at least one, then what is dropped after it, zs (one character after an attribute, if there is
+-- one; else none); and so on; at last a gap.
 pub data Tiled (shift : ℕ) : List ℕ → ℕ → List Token → Type 0 where
-  gap-last : {cs : List ℕ} {at : ℕ} → gap cs at ≡ Past (reach cs at) (length cs) → Tiled shift cs at []
+  gap-last : {cs : List ℕ} {at : ℕ} → gap cs at ≡ Past (reach cs at) (length cs) → Blank [] cs → Tiled shift cs at []
   token-next : {cs : List ℕ} {at : ℕ} {t : Token} {ts : List Token} (xs ys zs rest : List ℕ) → cs ≡ xs ++ (ys ++ (zs ++ rest))
       → gap cs at ≡ Past (reach xs at) (length xs)
+      → Blank (ys ++ (zs ++ rest)) xs
       → t .start ≡ reach xs at + shift
       → t .end ≡ reach ys (reach xs at) + shift
       → 0 < length ys

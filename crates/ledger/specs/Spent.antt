@@ -1,0 +1,103 @@
+-- What the calls of a run pass, by the definition of a call and by nothing else: no counter is asked.
+use Prim.Native.Nat.{_+_, _-_, suc, zero, ℕ}
+use native.Mathlib.Omega.{arith}
+use mathlib.Core.Bool.{Bool, cond, false, true}
+use mathlib.Core.List.{List}
+use mathlib.Core.Path.{_∙_, _≡_, ap, refl}
+use lib.Dec.{ltb}
+use lib.ListN.{length}
+use Rattle.record.specs.Records.{refusal}
+use Rattle.record.specs.declared.Code.the-variants.{NoRoom, WorkLimit}
+use Rattle.record.specs.declared.Token.{Token}
+use Rattle.scan.specs.Until.{left}
+use Rattle.reading.specs.Next.{next}
+use Rattle.reading.specs.Run.{Run, also, doneBy, runFrom, shiftToken, shiftWhat, step, stopped}
+use Rattle.reading.specs.Story.{call, run-end, run-error, run-full, run-got, step-on, step-over}
+use Rattle.reading.specs.declared.Outcome.{Outcome}
+use Rattle.reading.specs.declared.Outcome.the-variants.{Ended, Refused, Running}
+use Rattle.reading.specs.declared.Stepped.{Stepped}
+use Rattle.reading.specs.declared.Tokenizer.{Tokenizer}
+use Rattle.reading.specs.declared.What.{What}
+use Rattle.reading.specs.declared.What.the-variants.{End, Error, Got}
+use Rattle.ledger.specs.Codes.{ErrorIn, isError, next-errs}
+
+-- the advances of n calls, one after the other, from the place at of the text s
+unfoldable pub spent : List ℕ → ℕ → ℕ → ℕ
+spent s zero at = 0
+spent s (suc n) at = next (left s at) at .advances + spent s n (next (left s at) at .at)
+
+-- 01: "14 and 15 leave the tokenizer as before that call, with the count through the last delivered answer; any other answer's count includes
+-- the final call. 11 to 13 report count 0." The final call counts where it answered the end or an error of the reading, 1 to 10.
+abbrev pub finalCall : Outcome → ℕ
+finalCall Running = 0
+finalCall Ended = 1
+finalCall (Refused r) = cond (isError (r .code)) 1 0
+
+-- the count of a run from the tokenizer t
+abbrev pub Spends : List ℕ → Tokenizer → Run → Type 0
+Spends s t r = r .state .count ≡ t .count + spent s (length (r .tokens) + finalCall (r .how)) (t .at)
+
+module _ (s : List ℕ) (t : Tokenizer) where
+  -- nothing is passed
+  none : (how : Outcome) → finalCall how ≡ 0 → Spends s t (stopped how t)
+  unfolding spent
+  none how e = rw e (omega arith)
+
+  -- the final call
+  one : (how : Outcome) (u : Tokenizer) → finalCall how ≡ 1 → u .count ≡ t .count + next (left s (t .at)) (t .at) .advances → Spends s t (stopped how u)
+  unfolding spent
+  one how u e c = rw (e, c) (omega arith)
+
+  -- a token's call
+  first : (y : Token) (u : Tokenizer) (r : Run) → u .at ≡ next (left s (t .at)) (t .at) .at → u .count ≡ t .count + next (left s (t .at)) (t .at) .advances
+      → Spends s u r → Spends s t (also y r)
+  unfolding spent
+  first y u r a c h =
+      let z : length (also y r .tokens) + finalCall (r .how) ≡ suc (length (r .tokens) + finalCall (r .how)) = omega arith in
+      rw (z, ← a) (omega (arith, h, c))
+
+module _ (s : List ℕ) (shift limit : ℕ) where
+  spent-suc : (k room : ℕ) (t : Tokenizer) → t .done ≡ Running
+      → ((m : ℕ) (u : Tokenizer) → u .done ≡ Running → Spends s u (runFrom s shift limit k m u))
+      → Spends s t (runFrom s shift limit (suc k) room t)
+  unfolding call
+  spent-suc k room t d again = by (ltb limit (t .count + call s shift limit t .advances)) refl
+    where
+      some : (b : Bool) → ltb 0 room ≡ b → (q : ltb limit (t .count + call s shift limit t .advances) ≡ false) (y : Token) → call s shift limit t .what ≡ Got y
+          → Spends s t (runFrom s shift limit (suc k) room t)
+      some true z q y w =
+          let e = step-on s shift limit t d q in
+          let v : step s shift limit t .what ≡ Got (shiftToken shift y) = ap (λ (x : Stepped). x .what) e ∙ ap (shiftWhat shift) w in
+          let u = step s shift limit t .next in
+          let r : u .done ≡ Running = ap (λ (x : Stepped). x .next .done) e ∙ ap (λ (x : What). doneBy (shiftWhat shift x)) w in
+          rw (run-got s shift limit k room t (shiftToken shift y) v z)
+          (first s t (shiftToken shift y) u (runFrom s shift limit k (room - 1) u) (ap (λ (x : Stepped). x .next .at) e) (ap (λ (x : Stepped). x .next .count) e) (again (room - 1) u r))
+      some false z q y w =
+          let e = step-on s shift limit t d q in
+          let v : step s shift limit t .what ≡ Got (shiftToken shift y) = ap (λ (x : Stepped). x .what) e ∙ ap (shiftWhat shift) w in
+          rw (run-full s shift limit k room t (shiftToken shift y) v z) (none s t (Refused (refusal NoRoom (y .start + shift))) refl)
+
+      on : ltb limit (t .count + call s shift limit t .advances) ≡ false → (w : What) → call s shift limit t .what ≡ w → ErrorIn (call s shift limit t .what)
+          → Spends s t (runFrom s shift limit (suc k) room t)
+      on q (Got y) w h = some (ltb 0 room) refl q y w
+      on q (Error z) w h =
+          let e = step-on s shift limit t d q in
+          let l : isError (z .code) ≡ true = rw w at h in
+          rw (run-error s shift limit k room t (refusal (z .code) (z .place + shift)) (ap (λ (x : Stepped). x .what) e ∙ ap (shiftWhat shift) w))
+          (one s t (Refused (refusal (z .code) (z .place + shift))) (step s shift limit t .next) (rw l) (ap (λ (x : Stepped). x .next .count) e))
+      on q End w h =
+          let e = step-on s shift limit t d q in
+          rw (run-end s shift limit k room t (ap (λ (x : Stepped). x .what) e ∙ ap (shiftWhat shift) w))
+          (one s t Ended (step s shift limit t .next) refl (ap (λ (x : Stepped). x .next .count) e))
+
+      by : (b : Bool) → ltb limit (t .count + call s shift limit t .advances) ≡ b → Spends s t (runFrom s shift limit (suc k) room t)
+      by true q =
+          let e = step-over s shift limit t d q in
+          rw (run-error s shift limit k room t (refusal WorkLimit (t .at + shift)) (ap (λ (x : Stepped). x .what) e), ap (λ (x : Stepped). x .next) e)
+          (none s t (Refused (refusal WorkLimit (t .at + shift))) refl)
+      by false q = on q (call s shift limit t .what) refl ((next-errs (left s (t .at)) (t .at)) .is)
+
+  pub spent-run : (k room : ℕ) (t : Tokenizer) → t .done ≡ Running → Spends s t (runFrom s shift limit k room t)
+  unfolding runFrom
+  spent-run zero room t d = none s t Running refl
+  spent-run (suc k) room t d = spent-suc k room t d (λ m u. spent-run k m u)
