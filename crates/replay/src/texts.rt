@@ -1,0 +1,119 @@
+// A recorded text: it is run, and the run compared with the answer.
+use crate::numbers::Number;
+use crate::numbers::Verdict;
+use crate::numbers::Walk;
+use crate::numbers::expect;
+use crate::numbers::number_at;
+use crate::numbers::text_at;
+use crate::say::in_line;
+use crate::say::word;
+use crate::words::ADVANCES;
+use crate::words::ANSWER;
+use crate::words::CODE;
+use crate::words::CURSOR;
+use crate::words::KIND;
+use crate::words::PLACE;
+use crate::words::TOKENS;
+use reading::Outcome;
+use run::Ran;
+
+const HIGHEST: u64 = 18446744073709551615;
+
+// The most tokens that a text of a case can have.
+const MOST: usize = 32768;
+
+// A refusal's number; 0 at the end.
+fn code(how: Outcome) -> u64 {
+    match how {
+        Outcome::Refused(r) => {
+            let c = r.code;
+            record::code_number(c) as u64
+        }
+        _ => 0,
+    }
+}
+
+// A refusal's place; 0 at the end.
+fn place(how: Outcome) -> u64 {
+    match how {
+        Outcome::Refused(r) => r.place,
+        _ => 0,
+    }
+}
+
+// Every number of every token is compared.
+fn tokens(body: &[u8], from: Walk, list: &[u64]) -> Walk {
+    let mut w = from;
+    let mut i: usize = 0;
+    while i < list.len() {
+        w = expect(body, w, KIND + i % 5, (i / 5) as u64, list[i]);
+        i += 1;
+    }
+    w
+}
+
+// The tokens, each its five numbers in a line.
+fn show_tokens(list: &[u64]) {
+    let mut i: usize = 0;
+    while i < list.len() {
+        in_line(list[i], i % 5 == 4);
+        i += 1;
+    }
+}
+
+// Prints what was answered.
+fn show(code: u64, place: u64, advances: u64, cursor: u64, list: &[u64]) {
+    show_tokens(list);
+    word(ANSWER);
+    in_line(code, false);
+    in_line(place, false);
+    in_line(advances, false);
+    in_line(cursor, true);
+}
+
+fn answer(body: &[u8], at: usize, ran: Ran, list: &[u64]) -> Verdict {
+    let how = ran.how;
+    let state = ran.state;
+    let begun = Walk {
+        at,
+        found: Verdict::Same,
+    };
+    let counted = expect(body, begun, TOKENS, 0, ran.stored as u64);
+    let coded = expect(body, counted, CODE, 0, code(how));
+    let placed = expect(body, coded, PLACE, 0, place(how));
+    let advanced = expect(body, placed, ADVANCES, 0, ran.advances);
+    let stood = expect(body, advanced, CURSOR, 0, state.at);
+    let read = tokens(body, stood, list);
+    let found = crate::numbers::finish(body, read);
+    if let Verdict::Differs(_) = found {
+        show(code(how), place(how), ran.advances, state.at, list);
+    }
+    found
+}
+
+// The numbers of the tokens that were delivered.
+fn delivered(list: &[u64], stored: usize) -> &[u64] {
+    if MOST < stored {
+        return &list[0..0];
+    }
+    let n = 5 * stored;
+    if list.len() < n {
+        return &list[0..0];
+    }
+    &list[0..n]
+}
+
+// Runs the text of a body, and compares.
+pub(crate) fn compare(body: &[u8], list: &mut [u64]) -> Verdict {
+    let Number::Is { value: shift, next } = number_at(body, 0) else {
+        return Verdict::Malformed;
+    };
+    let text = text_at(body, next);
+    if !text.ok {
+        return Verdict::Malformed;
+    }
+    let from = text.from;
+    let to = text.to;
+    let ran = run::run_numbers(&body[from..to], shift, HIGHEST, list, tok::start());
+    answer(body, to, ran, delivered(list, ran.stored))
+}
