@@ -15,32 +15,19 @@ use crate::words::OF_TOKEN;
 use crate::words::RECORDED;
 use crate::words::SPACE;
 use crate::words::WORDS;
-
-fn slice_of<'a>(words: &'a [u8], ends: &'a [usize], i: usize) {
-    if i < ends.len() {
-        if i + 1 < ends.len() {
-            let a = ends[i];
-            let b = ends[i + 1];
-            if a <= b {
-                if b <= words.len() {
-                    io::write_all(1, &words[a..b]);
-                }
-            }
-        }
-    }
-}
+use libc::STDOUT_FILENO;
 
 // Prints a word of the table.
 pub(crate) fn word(i: usize) {
-    slice_of(&WORDS, &ENDS, i);
+    show::name(STDOUT_FILENO, &WORDS, &ENDS, i);
 }
 
 pub(crate) fn decimal(n: u64) {
-    io::print_decimal(1, n);
+    show::number(STDOUT_FILENO, n);
 }
 
 pub(crate) fn hex(b: u8) {
-    io::print_hex(1, b as u64, 2);
+    io::print_hex(STDOUT_FILENO, b as u64, 2);
 }
 
 // A word and a number.

@@ -71,24 +71,57 @@ fn show(code: u64, place: u64, advances: u64, cursor: u64, list: &[u64]) {
     in_line(cursor, true);
 }
 
-fn answer(body: &[u8], at: usize, ran: Ran, list: &[u64]) -> Verdict {
-    let how = ran.how;
-    let state = ran.state;
+// The numbers of an answer are compared, and then those of the tokens.
+fn held(
+    body: &[u8],
+    at: usize,
+    code: u64,
+    place: u64,
+    advances: u64,
+    cursor: u64,
+    list: &[u64],
+) -> Walk {
     let begun = Walk {
         at,
         found: Verdict::Same,
     };
-    let counted = expect(body, begun, TOKENS, 0, ran.stored as u64);
-    let coded = expect(body, counted, CODE, 0, code(how));
-    let placed = expect(body, coded, PLACE, 0, place(how));
-    let advanced = expect(body, placed, ADVANCES, 0, ran.advances);
-    let stood = expect(body, advanced, CURSOR, 0, state.at);
-    let read = tokens(body, stood, list);
-    let found = crate::numbers::finish(body, read);
+    let counted = expect(body, begun, TOKENS, 0, (list.len() / 5) as u64);
+    let coded = expect(body, counted, CODE, 0, code);
+    let placed = expect(body, coded, PLACE, 0, place);
+    let advanced = expect(body, placed, ADVANCES, 0, advances);
+    let stood = expect(body, advanced, CURSOR, 0, cursor);
+    tokens(body, stood, list)
+}
+
+// The same, and what was answered is printed where it differs.
+fn told(
+    body: &[u8],
+    at: usize,
+    code: u64,
+    place: u64,
+    advances: u64,
+    cursor: u64,
+    list: &[u64],
+) -> Verdict {
+    let found = crate::numbers::finish(body, held(body, at, code, place, advances, cursor, list));
     if let Verdict::Differs(_) = found {
-        show(code(how), place(how), ran.advances, state.at, list);
+        show(code, place, advances, cursor, list);
     }
     found
+}
+
+fn answer(body: &[u8], at: usize, ran: Ran, list: &[u64]) -> Verdict {
+    let how = ran.how;
+    let state = ran.state;
+    told(
+        body,
+        at,
+        code(how),
+        place(how),
+        ran.advances,
+        state.at,
+        list,
+    )
 }
 
 // The numbers of the tokens that were delivered.

@@ -23,7 +23,7 @@ pub fn number(fd: i32, n: u64)
 }
 
 // The i-th of the names that stand one after another, the i-th of them from ends[i] to ends[i + 1].
-fn name(fd: i32, names: &[u8], ends: &[usize], i: usize)
+pub fn name(fd: i32, names: &[u8], ends: &[usize], i: usize)
     ensures { λ r. ⌜ r ≡ tt ⌝ }
 {
     if i < ends.len() {
