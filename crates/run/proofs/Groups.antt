@@ -1,23 +1,31 @@
 -- Groups of five numbers, one after another, in a lent list.
-use Prim.Native.Nat.{ℕ, suc, _+_, _*_, _/_, _≤_}
+use Prim.Native.Nat.{ℕ, suc, _+_, _*_, _/_, _<_, _≤_}
 use mathlib.Core.Bool.{true, false}
 use native.Mathlib.Omega.{arith}
 use mathlib.Core.List.{List, [], _∷_, _++_, append-assoc, append-nil}
 use mathlib.Core.Path.{_≡_, refl, sym, ap, _∙_}
 use lib.ListN.{length, set}
 use lib.Seq.{sets}
+use Rattle.utf8.specs.Utf8.{boundary}
+use Rattle.record.specs.Checks.{checks}
 use Rattle.record.specs.Numbers.{kindNumber}
-use Rattle.record.specs.Records.{over}
+use Rattle.record.specs.Records.{over, refusal}
 use Rattle.record.specs.Stores.{sets-append, sets-over}
+use Rattle.record.specs.declared.Checked.the-variants.{Passed, Refused as Stopped}
+use Rattle.record.specs.declared.Code.the-variants.{BadRecord}
+use Rattle.record.specs.declared.Refusal.{Refusal}
 use Rattle.record.specs.declared.Token.{Token}
 use Rattle.reading.specs.Run.{Run}
+use Rattle.reading.specs.declared.Outcome.the-variants.{Refused}
 use Rattle.reading.specs.declared.Tokenizer.{Tokenizer}
 use Rattle.run.specs.Checked.{ranOf, wholeRun}
 use Rattle.run.specs.Numbers.{groupSize, numbersAll, numbersOf}
-use Rattle.run.specs.Pending.{advanceOf, beginOf}
+use Rattle.run.specs.Pending.{advanceOf, beginOf, halted, pendOf}
+use Rattle.run.specs.Room.{Ready}
+use Rattle.run.specs.Steps.{ready-of}
 use Rattle.run.specs.declared.Pending.{Pending}
 use Rattle.run.specs.declared.Ran.{Ran}
-use Rattle.run.proofs.Turns.{Core, core-end, core-start, core-turn}
+use Rattle.run.proofs.Turns.{Core, core-end, core-start, core-turn, pend-goes}
 
 pub all-length : (ts : List Token) → length (numbersAll ts) ≡ groupSize * length ts
 unfolding numbersAll
@@ -78,3 +86,52 @@ module _ (s : List ℕ) (shift limit room : ℕ) (t₀ : Tokenizer) (xs : List �
         let l = all-length (i .done) in
         let f = i .core .fits in
         (h .0, i .list-is ∙ sets-over (numbersAll (i .done)) xs (omega arith) ∙ ap (λ (ts : List Token). over (numbersAll ts) xs) (h .1))
+
+-- ---- the loop that asks for a token and stores it, before it asks: n are stored, and the tokenizer is t
+pub record Asking (s : List ℕ) (shift limit room : ℕ) (t₀ : Tokenizer) (xs : List ℕ) (n : ℕ) (t : Tokenizer) (ys : List ℕ) : Type 0 where
+  pub ready : Ready s shift t
+  pub pending : Numbered s shift limit room t₀ xs (pendOf s shift limit room n t) ys
+
+module _ (s : List ℕ) (shift limit room : ℕ) (t₀ : Tokenizer) (xs : List ℕ) where
+  pub asking-start : checks s shift ≡ Passed → boundary s (t₀ .at) ≡ true → Asking s shift limit room t₀ xs 0 t₀ xs
+  unfolding beginOf
+  asking-start e b =
+      record {
+        ready = ready-of s shift t₀ e b;
+        pending = numbered-start s shift limit room t₀ xs (pendOf s shift limit room 0 t₀) (rw (e, b));
+      }
+
+  module _ (n : ℕ) (t : Tokenizer) (ys : List ℕ) (i : Asking s shift limit room t₀ xs n t ys) (p : Pending) (q : p ≡ pendOf s shift limit room n t) where
+    here : Numbered s shift limit room t₀ xs p ys
+    here = rw q (i .pending)
+
+    stored : p .ran .stored ≡ n
+    stored = rw q (pend-goes s shift limit room n t .0)
+
+    pub asking-space : p .going ≡ true → n < room
+    asking-space g = let o = here .core .going-on g in omega (arith, o .space, stored)
+
+    pub asking-turn : p .going ≡ true → (ys′ : List ℕ) → ys′ ≡ sets ys (groupSize * n) (numbersOf (p .token))
+        → Asking s shift limit room t₀ xs (n + 1) (p .ran .state) ys′
+    unfolding advanceOf
+    asking-turn g ys′ f =
+        record {
+          ready = here .core .going-on g .ready;
+          pending = numbered-turn s shift limit room t₀ xs p ys here g (pendOf s shift limit room (n + 1) (p .ran .state)) ys′ (rw stored) (rw stored f);
+        }
+
+    pub asking-end : p .going ≡ false → room ≡ length xs / groupSize
+        → (p .ran ≡ ranOf s shift limit room t₀) × (ys ≡ over (numbersAll (wholeRun s shift limit room t₀ .tokens)) xs)
+    asking-end g e = numbered-end s shift limit room t₀ xs p ys here g e
+
+-- ---- a run that the checks refuse, or a cursor off the boundaries: nothing is stored
+module _ (s : List ℕ) (shift limit room : ℕ) (t₀ : Tokenizer) (xs : List ℕ) where
+  pub refused-run : (r : Refusal) → checks s shift ≡ Stopped r
+      → (halted 0 (Refused r) 0 t₀ .ran ≡ ranOf s shift limit room t₀) × (xs ≡ over (numbersAll (wholeRun s shift limit room t₀ .tokens)) xs)
+  unfolding ranOf wholeRun numbersAll
+  refused-run r e = rw e (refl, refl)
+
+  pub off-run : checks s shift ≡ Passed → boundary s (t₀ .at) ≡ false
+      → (halted 0 (Refused (refusal BadRecord 0)) (t₀ .count) t₀ .ran ≡ ranOf s shift limit room t₀) × (xs ≡ over (numbersAll (wholeRun s shift limit room t₀ .tokens)) xs)
+  unfolding ranOf wholeRun numbersAll
+  off-run e b = rw (e, b) (refl, refl)

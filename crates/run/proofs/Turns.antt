@@ -84,7 +84,7 @@ module _ (s : List ℕ) (shift limit room : ℕ) where
     by-goes (Error r) u = (refl, refl, λ e. no e)
     by-goes End u = (refl, refl, λ e. no e)
 
-    pend-goes : Goes (step s shift limit t .next) (pendOf s shift limit room n t)
+    pub pend-goes : Goes (step s shift limit t .next) (pendOf s shift limit room n t)
     unfolding pendOf
     pend-goes = by-goes (step s shift limit t .what) (step s shift limit t .next)
 

@@ -10,10 +10,13 @@ use record::Refusal;
 use record::Token;
 ghost use mathlib.Core.Path.{_≡_};
 ghost use Prim.Native.Nat.{_+_, _*_, _/_, _<_, _≤_};
+ghost use mathlib.Core.Bool.{true};
 ghost use lib.Dec.{ltb};
 ghost use lib.ListN.{drop, length};
 ghost use lib.Seq.{sets};
-ghost use Rattle.utf8.specs.Utf8.{chars};
+ghost use Rattle.utf8.specs.Utf8.{boundary, chars};
+ghost use Rattle.record.specs.Checks.{checks};
+ghost use Rattle.record.specs.declared.Checked.the-variants.{Passed};
 ghost use Rattle.record.specs.Records.{over};
 ghost use Rattle.reading.specs.Next.{next};
 ghost use Rattle.reading.specs.Run.{doneBy, shiftToken, shiftWhat, step, stepBy};
@@ -337,18 +340,48 @@ fn put_group(records: &mut [u64], i: usize, t: Token)
     records[p + 4] = t.payload_end;
 }
 
+// The run itself, for a text and a tokenizer that passed the checks. Here alone the next token is asked for and stored, in one loop.
+fn store_all(text: &[u8], shift: u64, limit: u64, records: &mut [u64], from: Tokenizer) -> Ran
+    requires { ⌜ (checks (now text) shift ≡ Passed) × (boundary (now text) (from .at) ≡ true) ⌝ }
+    ensures { λ r. ⌜ (r ≡ ranOf (now (text .entry)) shift limit (length (now (records .entry)) / groupSize) from) × (now (records .exit) ≡ over (numbersAll (wholeRun (now (text .entry)) shift limit (length (now (records .entry)) / groupSize) from .tokens)) (now (records .entry))) ⌝ }
+{
+    let room = records.len() / GROUP_SIZE;
+    let mut n: usize = 0;
+    let mut t = from;
+    loop {
+        let p = pend(text, shift, limit, room, n, t);
+        let ran = p.ran;
+        if p.going {
+            let token = p.token;
+            put_group(records, n, token);
+            n += 1;
+            t = ran.state;
+        } else {
+            return ran;
+        }
+    }
+}
+
 // A whole run for callers that cannot lend records: each is five numbers, and numbers beyond the count's groups are as they were.
 pub fn run_numbers(text: &[u8], shift: u64, limit: u64, records: &mut [u64], from: Tokenizer) -> Ran
     ensures { λ r. ⌜ (r ≡ ranOf (now (text .entry)) shift limit (length (now (records .entry)) / groupSize) from) × (now (records .exit) ≡ over (numbersAll (wholeRun (now (text .entry)) shift limit (length (now (records .entry)) / groupSize) from .tokens)) (now (records .entry))) ⌝ }
 {
-    let room = records.len() / GROUP_SIZE;
-    let mut p = begin(text, shift, limit, room, from);
-    while p.going {
-        let ran = p.ran;
-        let n = ran.stored;
-        let token = p.token;
-        put_group(records, n, token);
-        p = advance(text, shift, limit, room, p);
+    match record::checks(text, shift) {
+        Checked::Passed => {
+            let at = from.at;
+            if utf8::is_boundary(text, at as usize) {
+                return store_all(text, shift, limit, records, from);
+            }
+            let off = Outcome::Refused(Refusal {
+                code: Code::BadRecord,
+                place: 0,
+            });
+            let p = halted(0, off, from.count, from);
+            p.ran
+        }
+        Checked::Refused(r) => {
+            let p = halted(0, Outcome::Refused(r), 0, from);
+            p.ran
+        }
     }
-    p.ran
 }

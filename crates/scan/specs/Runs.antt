@@ -2,22 +2,25 @@
 use Prim.Native.Nat.{_+_, _-_, _<_, _≤_, suc, zero, ℕ}
 use native.Mathlib.Decide.{decLt}
 use native.Mathlib.Omega.{arith}
-use mathlib.Core.Bool.{Bool, _||_, false, true}
+use mathlib.Core.Bool.{Bool, _&&_, _||_, false, not, true}
 use mathlib.Core.List.{List, [], _∷_}
 use mathlib.Core.Path.{_∙_, _≡_, ap, refl, sym}
 use lib.Dec.{eqb, leb}
 use lib.ListN.{drop, drop-of-length-le, getD, length}
 use lib.Seq.{drop-cons}
 use native.Mathlib.Numerals.{add-one}
-use borrow.Author.Tests.{eqb-false, le-leb, leb-false, lt-leb}
-use Rattle.utf8.specs.Chars.{'*, '/, 'backslash, 'dquote}
+use borrow.Author.Tests.{eqb-false, le-leb, leb-false, lt-leb, ne-eqb}
+use Rattle.utf8.specs.Chars.{'#, '*, '/, 'backslash, 'dquote}
 use Rattle.utf8.specs.Laws.{Seen, seen, sight-ascii}
 use Rattle.utf8.specs.Picks.{picks}
+use Rattle.unicode.specs.Identifier.{asciiContinue, isIdentifierContinue}
+use Rattle.unicode.proofs.Ascii.{ascii-continue}
 use Rattle.scan.specs.Readers.{comDone, comStep, commentEnd, regDone, regStep, regexEnd, strDone, strStep, stringEnd}
 use Rattle.scan.specs.Seek.{seek, seekDone, seekStep, stopAt}
 use Rattle.scan.specs.Until.{left, until, until-on}
 use Rattle.scan.specs.declared.Com.the-variants.{Open}
 use Rattle.scan.specs.declared.Sought.{Sought}
+use Rattle.scan.specs.declared.Sought.the-variants.{Hashes, Word}
 use Rattle.scan.specs.declared.Str.the-variants.{Plain}
 
 -- how many bytes stand before the first one to stop at
@@ -37,6 +40,77 @@ seek-far k x h = rw (le-leb 128 x h)
 
 pub seek-near : (k : Sought) (x : ℕ) (d : Bool) → x < 128 → stopAt k x ≡ d → seekStop k x ≡ d
 seek-near k x d h e = rw (lt-leb 128 x h) e
+
+-- two tests that agree make the same run
+pub run-same : (f g : ℕ → Bool) → ((x : ℕ) → f x ≡ g x) → (s : List ℕ) → run f s ≡ run g s
+unfolding run
+run-same f g h [] = refl
+run-same f g h (x ∷ s) = go (f x) refl (run-same f g h s)
+  where
+    go : (b : Bool) → f x ≡ b → run f s ≡ run g s → run f (x ∷ s) ≡ run g (x ∷ s)
+    go true q i = let r : g x ≡ true = sym (h x) ∙ q in rw (q, r, run)
+    go false q i = let r : g x ≡ false = sym (h x) ∙ q in rw (q, r, run) (ap suc i)
+
+-- a kind that stops at one character: its run is the one up to that character
+pub seek-plain : (k : Sought) (a : ℕ) → ((x : ℕ) → stopAt k x ≡ eqb x a) → (s : List ℕ) → run (plainStop a a) s ≡ run (seekStop k) s
+seek-plain k a h s = run-same (plainStop a a) (seekStop k) (λ x. go (eqb x a) (leb 128 x) (stopAt k x) (h x)) s
+  where
+    go : (e f g : Bool) → g ≡ e → (e || e) || f ≡ f || g
+    go true true g q = refl
+    go true false g q = sym q
+    go false true g q = refl
+    go false false g q = sym q
+
+-- what a test says that the code asks turned round
+pub turned-yes : (b : Bool) → not b ≡ true → b ≡ false
+turned-yes true e = sym e
+turned-yes false e = refl
+
+pub turned-no : (b : Bool) → not b ≡ false → b ≡ true
+turned-no true e = refl
+turned-no false e = sym e
+
+-- the bytes of a word, and hashes
+word-low : (x : ℕ) → asciiContinue x ≡ true → x < 128
+word-low x e = go (decLt x 128)
+  where
+    go : Dec (x < 128) → x < 128
+    go (yes l) = l
+    go (no l) =
+        let z : false ≡ true = rw (
+          le-leb 97 x (omega arith),
+          lt-leb x 122 (omega arith),
+          le-leb 65 x (omega arith),
+          lt-leb x 90 (omega arith),
+          le-leb 48 x (omega arith),
+          lt-leb x 57 (omega arith),
+          ne-eqb x 95 (omega arith),
+        ) at e in
+        let w : _≡_ {A = ℕ} 0 1 = cc in
+        absurd (omega arith)
+
+pub word-on : (x : ℕ) → asciiContinue x ≡ true → seekStop Word x ≡ false
+word-on x e = let l = word-low x e in rw (lt-leb 128 x l, ← (ascii-continue x l), e)
+
+pub small-letter : (x : ℕ) → leb 97 x && leb x 122 ≡ true → asciiContinue x ≡ true
+small-letter x e = rw e
+
+pub word-stop : (x : ℕ) → asciiContinue x ≡ false → seekStop Word x ≡ true
+word-stop x e = go (decLt x 128)
+  where
+    go : Dec (x < 128) → seekStop Word x ≡ true
+    go (yes l) = rw (lt-leb 128 x l, ← (ascii-continue x l), e)
+    go (no l) = seek-far Word x (omega arith)
+
+pub hash-on : (x : ℕ) → x ≡ '# → seekStop Hashes x ≡ false
+hash-on x e = rw e
+
+pub hash-stop : (x : ℕ) → (x ≡ '# → ⊥) → seekStop Hashes x ≡ true
+hash-stop x e = rw (ne-eqb x '# e) (go (leb 128 x))
+  where
+    go : (b : Bool) → b || true ≡ true
+    go true = refl
+    go false = refl
 
 -- a run, byte by byte
 module _ (stop : ℕ → Bool) (s : List ℕ) (at : ℕ) where

@@ -7,3 +7,4 @@ pub mod Order
 -- the laws that lead there, and those that the code cites
 pub mod Laws
 pub mod Pieces
+pub mod Common

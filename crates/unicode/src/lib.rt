@@ -34,6 +34,9 @@ pub fn is_identifier_start(c: u32) -> bool
     if c < 128 {
         return ascii_start(c);
     }
+    if is_common(c) {
+        return true;
+    }
     start_by_table(c)
 }
 
@@ -43,6 +46,9 @@ pub fn is_identifier_continue(c: u32) -> bool
 {
     if c < 128 {
         return ascii_continue(c);
+    }
+    if is_common(c) {
+        return true;
     }
     continue_by_table(c)
 }
@@ -57,6 +63,64 @@ fn ascii_continue(c: u32) -> bool
     ensures { λ r. ⌜ r ≡ asciiContinue c ⌝ }
 {
     ((97 <= c) & (c <= 122)) | ((65 <= c) & (c <= 90)) | (c == 95) | ((48 <= c) & (c <= 57))
+}
+
+// Letters that most words beyond ASCII are made of: for speed alone, since a lookup costs several times as much. Branches, not one
+// expression: the compiler makes slow vectors of that.
+fn is_latin(c: u32) -> bool
+    ensures { λ r. ⌜ (r ≡ true → isIdentifierStart c ≡ true) ⌝ }
+{
+    if 0x00F8 <= c {
+        return c <= 0x02C1;
+    }
+    if 0x00D8 <= c {
+        return c <= 0x00F6;
+    }
+    (0x00C0 <= c) & (c <= 0x00D6)
+}
+
+// Greek and Cyrillic.
+fn is_greek_or_cyrillic(c: u32) -> bool
+    ensures { λ r. ⌜ (r ≡ true → isIdentifierStart c ≡ true) ⌝ }
+{
+    if 0x03F7 <= c {
+        return c <= 0x0481;
+    }
+    if 0x03A3 <= c {
+        return c <= 0x03F5;
+    }
+    (0x038E <= c) & (c <= 0x03A1)
+}
+
+// Hangul, Han and kana.
+fn is_eastern(c: u32) -> bool
+    ensures { λ r. ⌜ (r ≡ true → isIdentifierStart c ≡ true) ⌝ }
+{
+    if 0xAC00 <= c {
+        return c <= 0xD7A3;
+    }
+    if 0x4E00 <= c {
+        return c <= 0xA48C;
+    }
+    if 0x30FC <= c {
+        return c <= 0x30FF;
+    }
+    if 0x30A1 <= c {
+        return c <= 0x30FA;
+    }
+    (0x3041 <= c) & (c <= 0x3096)
+}
+
+fn is_common(c: u32) -> bool
+    ensures { λ r. ⌜ (r ≡ true → isIdentifierStart c ≡ true) ⌝ }
+{
+    if c < 0x0370 {
+        return is_latin(c);
+    }
+    if c < 0x3041 {
+        return is_greek_or_cyrillic(c);
+    }
+    is_eastern(c)
 }
 
 // Whether some range of a table holds c, by halving. The table is lent as its first numbers and its last.

@@ -1,78 +1,62 @@
--- `run::run_numbers` meets its contract: the turns are the run's (Turns.antt), and each stores one group (Groups.antt).
-use Prim.Native.Nat.{ℕ, _-_, _/_}
-use native.Mathlib.Omega.{arith}
-use mathlib.Core.Path.{_≡_, refl, ap, _∙_}
-use lib.ListN.{length}
-use lib.Seq.{length-sets}
-use Rattle.reading.specs.declared.Tokenizer.{Tokenizer}
-use Rattle.run.specs.Numbers.{groupSize}
-use Rattle.run.specs.Pending.{beginOf}
+-- `run::run_numbers` meets its contract.
+use borrow.Author.Needs.{needs}
+use mathlib.Core.Path.{sym, ap, _∙_}
 use Rattle.run.specs.declared.Pending.{Pending}
-use Rattle.run.proofs.Groups.{Numbered, numbered-end, numbered-start, numbered-turn}
-use Rattle.run.proofs.Turns.{advance-stored}
+use Rattle.run.proofs.Groups.{off-run, refused-run}
 use Rattle.run.proofs.run_numbers.Statement.{statement}
 use Rattle.run.proofs.run_numbers.Tie as tie
 use Rattle.run.proofs.run_numbers.Reads as reads
 use Rattle.run.proofs.run_numbers.Lts as lts
-use Rattle.run.proofs.advance.Reads as advance-reads
-use Rattle.run.proofs.begin.Reads as begin-reads
-use Rattle.run.proofs.put_group.Reads as put-group-reads
+use Rattle.record.proofs.checks.Reads as checks-reads
+use Rattle.run.proofs.halted.Reads as halted-reads
+use Rattle.run.proofs.store_all.Reads as store-all-reads
+use Rattle.utf8.proofs.is_boundary.Reads as is-boundary-reads
 
-abbrev Inv-loop : tie.InvT-loop
-Inv-loop text shift limit records₀ room p₀ records p =
-    (length records ≡ length records₀) × (room ≡ length records₀ / groupSize)
-    × ((t₀ : Tokenizer) → p₀ ≡ beginOf text shift limit room t₀ → Numbered text shift limit room t₀ records₀ p records)
+checks-requires : tie.Need-checks-requires
+checks-requires c κs = search needs
 
-abbrev μ-loop : tie.MeasureT-loop
-μ-loop text shift limit records₀ room p₀ records p = room - p .ran .stored
+enum-told : tie.Need-enum-told
+enum-told c = search needs
 
-begin-requires : tie.Need-begin-requires Inv-loop μ-loop
-begin-requires c κs = tt
+is-boundary-requires : tie.Need-is-boundary-requires
+is-boundary-requires c κs = search needs
 
-loop-holds : tie.Need-loop-holds Inv-loop μ-loop
-loop-holds c = (refl, refl, λ t₀ e. numbered-start _ _ _ _ t₀ _ _ e)
+store-all-requires : tie.Need-store-all-requires
+store-all-requires c κs = (sym (c .before .before .before .before .before .checks .ensures) ∙ c .before .before .before .enum-told .given .1, sym (c .before .before .is-boundary .ensures) ∙ c .before .if1 .taken)
 
-put-group-requires : tie.Need-put-group-requires Inv-loop μ-loop
-put-group-requires c κs =
-    let l = c .before .before .before .before .loop in
-    let o = (l .inv .2 _ (c .before .before .before .before .before .begin .ensures)) .core .going-on (c .before .before .before .loop-test .taken) in
-    omega (arith, o .space, l .inv .0, l .inv .1)
+same-length : tie.Need-same-length
+same-length c = search needs
 
-advance-requires : tie.Need-advance-requires Inv-loop μ-loop
-advance-requires c κs = (c .before .before .before .before .before .before .before .loop .inv .2 _ (c .before .before .before .before .before .before .before .before .begin .ensures)) .core .going-on (c .before .before .before .before .before .before .loop-test .taken)
+returns : tie.Need-returns
+returns c = search needs
 
-loop-less : tie.Need-loop-less Inv-loop μ-loop
-loop-less c =
-    let l = c .before .before .before .before .before .before .before .before .loop in
-    let o = (l .inv .2 _ (c .before .before .before .before .before .before .before .before .before .begin .ensures)) .core .going-on (c .before .before .before .before .before .before .before .loop-test .taken) in
-    let e = ap (λ (q : Pending). q .ran .stored) (c .advance .ensures) ∙ advance-stored _ _ _ _ (c .before .before .before .before .before .before .before .before .before .before .before .before .args .from) (l .p) in
-    omega (arith, o .space, e)
+halted-requires : tie.Need-halted-requires
+halted-requires c κs = search needs
 
-loop-again : tie.Need-loop-again Inv-loop μ-loop
-loop-again c =
-    let l = c .before .before .before .before .before .before .before .before .loop in
-    let f = c .before .before .before .put-group .ensures in
-    (simp length-sets at (ap length f) ∙ l .inv .0, l .inv .1, λ t₀ e. numbered-turn _ _ _ _ t₀ _ _ _ (l .inv .2 t₀ e) (c .before .before .before .before .before .before .before .loop-test .taken) _ _ (c .advance .ensures) f)
+enum-known-r : tie.Need-enum-known-r
+enum-known-r c = search needs
 
-same-length : tie.Need-same-length Inv-loop μ-loop
-same-length c = c .before .before .loop .inv .0
+halted-requires-2 : tie.Need-halted-requires-2
+halted-requires-2 c κs = search needs
 
-returns : tie.Need-returns Inv-loop μ-loop
-returns c =
-    let l = c .before .before .loop in
-    numbered-end _ _ _ _ _ _ _ _ (l .inv .2 _ (c .before .before .before .begin .ensures)) (c .before .loop-test .left) (l .inv .1)
+returns-2 : tie.Need-returns-2
+returns-2 c = let o = off-run _ _ _ _ _ _ (sym (c .before .before .before .before .before .before .checks .ensures) ∙ c .before .before .before .before .enum-told .given .1) (sym (c .before .before .before .is-boundary .ensures) ∙ c .before .before .if1 .left) in (ap (λ (q : Pending). q .ran) (c .before .halted .ensures) ∙ o .0, o .1)
+
+returns-3 : tie.Need-returns-3
+returns-3 c = let o = refused-run _ _ _ _ _ _ _ (sym (c .before .before .before .before .before .checks .ensures) ∙ c .before .before .before .r .given .1) in (ap (λ (q : Pending). q .ran) (c .before .halted2 .ensures) ∙ o .0, o .1)
 
 pub run-numbers-spec : {M : Type 1} → statement M
 run-numbers-spec =
     tie.close
     (tie.spec
-    Inv-loop
-    μ-loop
-    begin-requires
-    loop-holds
-    put-group-requires
-    advance-requires
-    loop-less
-    loop-again
+    checks-requires
+    enum-told
+    is-boundary-requires
+    store-all-requires
     same-length
-    returns)
+    returns
+    halted-requires
+    enum-known-r
+    halted-requires-2
+    returns-2
+    returns-3)

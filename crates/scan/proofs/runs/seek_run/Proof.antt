@@ -1,67 +1,80 @@
 -- `scan::runs::seek_run` meets its contract.
-use Prim.Native.Nat.{_≤_, _-_, _+_}
-use mathlib.Core.Path.{_≡_, refl, sym, _∙_}
-use mathlib.Core.Bool.{true, false}
-use native.Mathlib.Omega.{arith}
 use borrow.Author.Needs.{needs}
-use lib.ListN.{length, drop, getD}
-use Rattle.scan.specs.Runs.{run, seekStop, run-past, run-stop, run-on, seek-far, seek-near}
+use Prim.Native.Nat.{ℕ, _+_}
+use mathlib.Core.Path.{refl, ap, _∙_}
+use lib.ListN.{drop}
+use Rattle.utf8.specs.Chars.{'newline, 'quote, 'backtick}
+use Rattle.scan.specs.declared.Sought.the-variants.{Newline, Quote, Backtick}
+use Rattle.scan.specs.Runs.{seek-plain}
 use Rattle.scan.proofs.runs.seek_run.Statement.{statement}
 use Rattle.scan.proofs.runs.seek_run.Tie as tie
 use Rattle.scan.proofs.runs.seek_run.Reads as reads
 use Rattle.scan.proofs.runs.seek_run.Lts as lts
-use Rattle.scan.proofs.runs.wide.Reads as wide-reads
-use Rattle.scan.proofs.stops.Reads as stops-reads
+use Rattle.scan.proofs.runs.hash_run.Reads as hash-run-reads
+use Rattle.scan.proofs.runs.plain_run.Reads as plain-run-reads
+use Rattle.scan.proofs.runs.word_run.Reads as word-run-reads
 
-abbrev Inv-loop : tie.InvT-loop
-Inv-loop s from kind at₀ at = (from ≤ at) × (at + run (seekStop kind) (drop at s) ≡ from + run (seekStop kind) (drop from s))
+enum-told : tie.Need-enum-told
+enum-told c = search needs
 
-abbrev μ-loop : tie.MeasureT-loop
-μ-loop s from kind at₀ at = length s - at
+plain-run-requires : tie.Need-plain-run-requires
+plain-run-requires c κs = search needs
 
-loop-holds : tie.Need-loop-holds Inv-loop μ-loop
-loop-holds c = (omega arith, refl)
+enum-told-2 : tie.Need-enum-told-2
+enum-told-2 c = search needs
 
-shared-slice-read-wide : tie.Need-shared-slice-read-wide Inv-loop μ-loop
-shared-slice-read-wide c = search needs
+plain-run-requires-2 : tie.Need-plain-run-requires-2
+plain-run-requires-2 c κs = search needs
 
-wide-requires : tie.Need-wide-requires Inv-loop μ-loop
-wide-requires c κs = search needs
+enum-told-3 : tie.Need-enum-told-3
+enum-told-3 c = search needs
 
-returns : tie.Need-returns Inv-loop μ-loop
-returns c = omega (arith, c .before .before .before .before .loop .inv .1, run-stop (seekStop (c .before .before .before .before .before .before .args .kind)) (c .before .before .before .before .before .before .args .s .now) (c .before .before .before .before .loop .at) (omega arith) (seek-far (c .before .before .before .before .before .before .args .kind) (getD (c .before .before .before .before .before .before .args .s .now) (c .before .before .before .before .loop .at) 0) (omega (arith, c .before .wide .ensures))))
+plain-run-requires-3 : tie.Need-plain-run-requires-3
+plain-run-requires-3 c κs = search needs
 
-stops-requires : tie.Need-stops-requires Inv-loop μ-loop
-stops-requires c κs = search needs
+enum-told-4 : tie.Need-enum-told-4
+enum-told-4 c = search needs
 
-returns-2 : tie.Need-returns-2 Inv-loop μ-loop
-returns-2 c = omega (arith, c .before .before .before .before .before .before .loop .inv .1, run-stop (seekStop (c .before .before .before .before .before .before .before .before .args .kind)) (c .before .before .before .before .before .before .before .before .args .s .now) (c .before .before .before .before .before .before .loop .at) (omega arith) (seek-near (c .before .before .before .before .before .before .before .before .args .kind) (getD (c .before .before .before .before .before .before .before .before .args .s .now) (c .before .before .before .before .before .before .loop .at) 0) true (omega (arith, c .before .before .before .wide .ensures)) (rw (c .before .before .before .wide .ensures) at (sym (c .before .stops .ensures) ∙ c .if2 .taken))))
+hash-run-requires : tie.Need-hash-run-requires
+hash-run-requires c κs = search needs
 
-add-at : tie.Need-add-at Inv-loop μ-loop
-add-at c = omega arith
+enum-told-5 : tie.Need-enum-told-5
+enum-told-5 c = search needs
 
-loop-less : tie.Need-loop-less Inv-loop μ-loop
-loop-less c = omega arith
+word-run-requires : tie.Need-word-run-requires
+word-run-requires c κs = search needs
 
-loop-again : tie.Need-loop-again Inv-loop μ-loop
-loop-again c = (omega arith, omega (arith, c .before .before .before .before .before .before .loop .inv .1, run-on (seekStop (c .before .before .before .before .before .before .before .before .args .kind)) (c .before .before .before .before .before .before .before .before .args .s .now) (c .before .before .before .before .before .before .loop .at) (omega arith) (seek-near (c .before .before .before .before .before .before .before .before .args .kind) (getD (c .before .before .before .before .before .before .before .before .args .s .now) (c .before .before .before .before .before .before .loop .at) 0) false (omega (arith, c .before .before .before .wide .ensures)) (rw (c .before .before .before .wide .ensures) at (sym (c .before .stops .ensures) ∙ c .if2 .left)))))
+returns : tie.Need-returns
+returns c = let a = c .before .before .before .before .args in rw (c .before .enum-told .given .1) (c .plain-run .ensures ∙ ap (λ (n : ℕ). a .from + n) (seek-plain Newline 'newline (λ x. refl) (drop (a .from) (a .s .now))))
 
-returns-3 : tie.Need-returns-3 Inv-loop μ-loop
-returns-3 c = omega (arith, c .before .loop .inv .1, run-past (seekStop (c .before .before .before .args .kind)) (c .before .before .before .args .s .now) (c .before .loop .at) (omega arith))
+returns-2 : tie.Need-returns-2
+returns-2 c = let a = c .before .before .before .before .args in rw (c .before .enum-told2 .given .1) (c .plain-run2 .ensures ∙ ap (λ (n : ℕ). a .from + n) (seek-plain Quote 'quote (λ x. refl) (drop (a .from) (a .s .now))))
+
+returns-3 : tie.Need-returns-3
+returns-3 c = let a = c .before .before .before .before .args in rw (c .before .enum-told3 .given .1) (c .plain-run3 .ensures ∙ ap (λ (n : ℕ). a .from + n) (seek-plain Backtick 'backtick (λ x. refl) (drop (a .from) (a .s .now))))
+
+returns-4 : tie.Need-returns-4
+returns-4 c = rw (c .before .enum-told4 .given .1) (c .hash-run .ensures)
+
+returns-5 : tie.Need-returns-5
+returns-5 c = rw (c .before .enum-told5 .given .1) (c .word-run .ensures)
 
 pub seek-run-spec : {M : Type 1} → statement M
 seek-run-spec =
     tie.close
     (tie.spec
-    Inv-loop
-    μ-loop
-    loop-holds
-    shared-slice-read-wide
-    wide-requires
+    enum-told
+    plain-run-requires
+    enum-told-2
+    plain-run-requires-2
+    enum-told-3
+    plain-run-requires-3
+    enum-told-4
+    hash-run-requires
+    enum-told-5
+    word-run-requires
     returns
-    stops-requires
     returns-2
-    add-at
-    loop-less
-    loop-again
-    returns-3)
+    returns-3
+    returns-4
+    returns-5)

@@ -1,0 +1,184 @@
+/* teykonasir.h: the proved tokenizer of LALRPOP grammars, for C.
+ *
+ * The archive target/staticlib/libexports.a is made by `rt staticlib exports`, for x86-64 Linux. It needs no other library and takes no
+ * memory beyond what is lent to it and a fixed stack.
+ *
+ * What every function has in common
+ *   - A slice is two arguments, its pointer and its length in elements. A pointer is never NULL, not even with length 0; uint64_t
+ *     slices are aligned to 8; a length in bytes is at most 2^63 - 1. A slice that is written overlaps no other slice of the call.
+ *   - Otherwise every input is allowed: each function answers, and ends, for all numbers and all bytes.
+ *   - The result is a code: 0, or one of enum teyk_code. The first numbers of `answer` say more; how many there are stands at each
+ *     function. If `answer` has fewer, the result is 14 (TEYK_NO_ROOM) and nothing at all is written. Numbers of `answer` beyond them
+ *     are never written.
+ *   - Nothing else is written than what is said here.
+ */
+#ifndef TEYKONASIR_H
+#define TEYKONASIR_H
+
+#include <stddef.h>
+#include <stdint.h>
+
+#ifdef __cplusplus
+extern "C" {
+#endif
+
+/* The codes. 1 to 10 are LALRPOP's own. */
+enum teyk_code {
+    TEYK_END = 0, /* nothing is refused; of a run: the end of the text */
+    TEYK_UNRECOGNIZED_TOKEN = 1, /* no token starts here, or half a symbol */
+    TEYK_UNTERMINATED_ESCAPE = 2, /* a backtick is not closed */
+    TEYK_UNTERMINATED_ASCII_ESCAPE = 3, /* expansion: `\x` with fewer than two characters after it */
+    TEYK_UNRECOGNIZED_ESCAPE = 4, /* expansion: an escape that is none */
+    TEYK_UNTERMINATED_STRING_LITERAL = 5, /* a string or a regex is not closed */
+    TEYK_UNTERMINATED_CHARACTER_LITERAL = 6, /* a quoted character is not closed */
+    TEYK_UNTERMINATED_ATTRIBUTE = 7, /* never shown: a failed attribute is read as `#` */
+    TEYK_UNTERMINATED_CODE = 8, /* the text ends in action code */
+    TEYK_EXPECTED_STRING_LITERAL = 9, /* after `r` and hashes, neither a quote nor a word */
+    TEYK_UNTERMINATED_BLOCK_COMMENT = 10, /* a comment is not closed */
+    TEYK_NOT_UTF8 = 11, /* ill-formed UTF-8 */
+    TEYK_TOO_LONG = 12, /* more than 2,147,483,647 bytes; for teyk_ltk_write, 2^32 records or more */
+    TEYK_SHIFT_TOO_LARGE = 13, /* shift plus text length above 2^64 - 1 */
+    TEYK_NO_ROOM = 14, /* the lent slice, or answer, is too short */
+    TEYK_WORK_LIMIT = 15, /* the next call would take the advances above the limit */
+    TEYK_TRAILING_BACKSLASH = 16, /* expansion: a lone last backslash */
+    TEYK_BAD_MARK = 17, /* LTK: the mark is wrong or cut */
+    TEYK_UNKNOWN_VERSION = 18, /* LTK: the version is not 1 */
+    TEYK_BAD_LENGTH = 19, /* LTK: the length does not fit the count */
+    TEYK_BAD_RECORD = 20 /* LTK: a record that no run gives */
+};
+
+/* The kinds of token, in the order of their numbers. Kinds with a payload are marked; for every other, payload start and end are start. */
+enum teyk_kind {
+    TEYK_KIND_ENUM = 0,
+    TEYK_KIND_EXTERN = 1,
+    TEYK_KIND_GRAMMAR = 2,
+    TEYK_KIND_MATCH = 3,
+    TEYK_KIND_ELSE = 4,
+    TEYK_KIND_IF = 5,
+    TEYK_KIND_MUT = 6,
+    TEYK_KIND_PUB = 7,
+    TEYK_KIND_IN = 8,
+    TEYK_KIND_TYPE = 9,
+    TEYK_KIND_WHERE = 10,
+    TEYK_KIND_FOR = 11,
+    TEYK_KIND_DYN = 12,
+    TEYK_KIND_USE = 13, /* payload: its code */
+    TEYK_KIND_ESCAPE = 14, /* payload: between the backticks */
+    TEYK_KIND_ID = 15, /* payload: all of it */
+    TEYK_KIND_MACRO_ID = 16, /* payload: all of it */
+    TEYK_KIND_LIFETIME = 17, /* payload: all of it, with its quote */
+    TEYK_KIND_STRING_LITERAL = 18, /* payload: between the quotes */
+    TEYK_KIND_CHAR_LITERAL = 19, /* payload: between the quotes */
+    TEYK_KIND_REGEX_LITERAL = 20, /* payload: between the quotes */
+    TEYK_KIND_AMPERSAND = 21, /* & */
+    TEYK_KIND_BANG_EQUALS = 22, /* != */
+    TEYK_KIND_BANG_TILDE = 23, /* !~ */
+    TEYK_KIND_COLON = 24, /* : */
+    TEYK_KIND_COLON_COLON = 25, /* :: */
+    TEYK_KIND_COMMA = 26, /* , */
+    TEYK_KIND_DOT_DOT = 27, /* .. */
+    TEYK_KIND_EQUALS = 28, /* = */
+    TEYK_KIND_EQUALS_EQUALS = 29, /* == */
+    TEYK_KIND_EQUALS_GREATER_THAN_CODE = 30, /* =>; payload: its code */
+    TEYK_KIND_EQUALS_GREATER_THAN_QUESTION_CODE = 31, /* =>?; payload: its code */
+    TEYK_KIND_EQUALS_GREATER_THAN_LOOKAHEAD = 32, /* =>@L */
+    TEYK_KIND_EQUALS_GREATER_THAN_LOOKBEHIND = 33, /* =>@R */
+    TEYK_KIND_HASH = 34, /* # */
+    TEYK_KIND_GREATER_THAN = 35, /* > */
+    TEYK_KIND_LEFT_BRACE = 36, /* { */
+    TEYK_KIND_LEFT_BRACKET = 37, /* [ */
+    TEYK_KIND_LEFT_PAREN = 38, /* ( */
+    TEYK_KIND_LESS_THAN = 39, /* < */
+    TEYK_KIND_LOOKAHEAD = 40, /* @L */
+    TEYK_KIND_LOOKBEHIND = 41, /* @R */
+    TEYK_KIND_MINUS_GREATER_THAN = 42, /* -> */
+    TEYK_KIND_PLUS = 43, /* + */
+    TEYK_KIND_QUESTION = 44, /* ? */
+    TEYK_KIND_RIGHT_BRACE = 45, /* } */
+    TEYK_KIND_RIGHT_BRACKET = 46, /* ] */
+    TEYK_KIND_RIGHT_PAREN = 47, /* ) */
+    TEYK_KIND_SEMI = 48, /* ; */
+    TEYK_KIND_STAR = 49, /* * */
+    TEYK_KIND_TILDE_TILDE = 50, /* ~~ */
+    TEYK_KIND_UNDERSCORE = 51, /* _ */
+    TEYK_KIND_BANG = 52, /* ! */
+    TEYK_KIND_SHEBANG_ATTRIBUTE = 53 /* payload: all of it */
+};
+
+/* How many numbers a record has: kind, start, end, payload start, payload end. This stays five. */
+#define TEYK_RECORD 5
+
+/* How many numbers each function tells in `answer`. */
+#define TEYK_RUN_ANSWER 4
+#define TEYK_EXPAND_ANSWER 4
+#define TEYK_PLACE_ANSWER 2
+#define TEYK_LTK_ANSWER 3
+
+/* Reads a text to its end or to the first refusal.
+ *
+ * Each token becomes a record of five numbers in `records`: kind, start, end, payload start, payload end. Places are bytes plus `shift`.
+ * The room is records_len / 5 records; numbers beyond the told number of records are not written.
+ * `limit` bounds the work: the total of advances (characters passed, failed attribute attempts included).
+ *
+ * answer: code, place, number of records, advances. The result is the code:
+ *    0         the end of the text; the place is 0
+ *    1 to 10   the text is refused there; the records before it stand (3, 4 and 7 never come)
+ *   11         the place is the first byte of the first ill-formed sequence, plus shift; no record, 0 advances
+ *   12, 13     place 0; no record, 0 advances
+ *   14         a further token had no room; the place is its start. With an `answer` of fewer than four numbers nothing is written
+ *   15         the next call would go above the limit; the place is where it would begin. If 14 applies too, 15 is given
+ * 12 is tested first, then 13, then 11, then the text is read. With 14 and 15 the advances are those up to the last record. */
+uint64_t teyk_run(const uint8_t *text, size_t text_len, uint64_t shift, uint64_t limit, uint64_t *records, size_t records_len,
+                  uint64_t *answer, size_t answer_len);
+
+/* Expands the escapes of a string literal's payload: \\ \" \n \r \t \0 \xHL (H octal, L hexadecimal).
+ *
+ * `idx0` is the place of the text's first byte. Without a backslash the answer is the text itself, and the buffer is not looked at.
+ * Otherwise the expansion is written to the buffer from `place` on, and all its other bytes stay. A `place` beyond the buffer is allowed.
+ *
+ * answer: place of the refusal, 0 or 1 (the text or the buffer holds the expansion), its start, its end. Start and end are indexes of
+ * that slice. With code 0 the first number is 0; with a refusal the other three are 0. The result is the code:
+ *    0         the expansion stands where the answer says
+ *    3, 4, 16  an escape is refused there (idx0 added)
+ *   11, 12, 13 as in teyk_run, with idx0 as the shift
+ *   14         place plus length goes beyond the buffer; the place is idx0. It is given only if nothing else is refused
+ * A refusal writes nothing to the buffer. */
+uint64_t teyk_expand(const uint8_t *text, size_t text_len, uint64_t idx0, uint8_t *buffer, size_t buffer_len, uint64_t place,
+                     uint64_t *answer, size_t answer_len);
+
+/* The line and the column of a place, which is a byte index with no shift.
+ *
+ * answer: line (1 plus the newlines, byte 10, before the place), column (1 plus the bytes since the last of them). A place beyond the
+ * text is answered as its end. The text need not be UTF-8. The result is 0, or 14 with fewer than two numbers in `answer`. */
+uint64_t teyk_place(const uint8_t *text, size_t text_len, uint64_t place, uint64_t *answer, size_t answer_len);
+
+/* Reads an LTK file (version 1) into records, each as teyk_run has them, with payload start and end equal to start.
+ *
+ * answer: code, place, number of records. The result is the code:
+ *    0   all records are read; the place is 0
+ *   17   the mark `LTK` is wrong or cut; place 0
+ *   19   fewer than 9 bytes; place 9
+ *   18   the version is not 1; place 3
+ *   19   the length is not 9 + 9 x count; place 9
+ *   20   kind above 53, end at or before start, start before the previous end, or end above 2,147,483,647; the place is the record's start
+ *   14   more records than records_len / 5; place 0
+ * They are tested in this order. A refusal tells 0 records and writes none; numbers beyond the records read are not written. */
+uint64_t teyk_ltk_read(const uint8_t *file, size_t file_len, uint64_t *records, size_t records_len, uint64_t *answer, size_t answer_len);
+
+/* Writes the records_len / 5 records as an LTK file (version 1), 9 + 9 x count bytes; their payloads are not stored. What is left over
+ * after the last whole group of five is no record. The records must have been made with shift 0.
+ *
+ * answer: code, place, number of bytes. The result is the code:
+ *    0   the file is written from the buffer's start; the place is 0
+ *   12   2^32 records or more; place 0
+ *   20   a record fails a test of teyk_ltk_read; the place is 9 + 9 x its index
+ *   14   the buffer is too short; place 0
+ * They are tested in this order. A refusal tells 0 bytes and writes none; bytes beyond the file are not written. */
+uint64_t teyk_ltk_write(const uint64_t *records, size_t records_len, uint8_t *buffer, size_t buffer_len, uint64_t *answer,
+                        size_t answer_len);
+
+#ifdef __cplusplus
+}
+#endif
+
+#endif
