@@ -30,21 +30,24 @@ fn starts(s: &[u8], c: u32, o: usize, next: usize) -> Call
     requires { ⌜ left (now s) o ≡ c ∷ left (now s) next ⌝ }
     ensures { λ r. ⌜ r ≡ starts c (left (now (s .entry)) next) o next ⌝ }
 {
-    match c {
-        signs::BANG => crate::more(1, crate::symbols::bang(s, o, next)),
-        signs::COLON => crate::more(1, crate::symbols::colon(s, o, next)),
-        signs::DOT => crate::more(1, crate::symbols::dot(s, o, next)),
-        signs::EQUALS => crate::more(1, crate::symbols::equals(s, o, next)),
-        signs::AT => crate::more(1, crate::symbols::look(s, o, next)),
-        signs::TILDE => crate::more(1, crate::symbols::tilde(s, o, next)),
-        signs::BACKTICK => crate::more(1, words::quotes::escape(s, o, next)),
-        signs::QUOTE => crate::more(1, words::quotes::lifetimeish(s, o, next)),
-        signs::DOUBLE_QUOTE => crate::more(1, words::quotes::string_literal(s, o, next)),
-        signs::SLASH => crate::more(1, crate::symbols::half(o, next)),
-        signs::MINUS => crate::more(1, crate::symbols::minus(s, o, next)),
-        signs::LOWER_R => crate::more(1, crate::regex::r_word(s, o, next)),
-        _ => other(s, c, o, next),
-    }
+    let x = match c {
+        signs::BANG => crate::symbols::bang(s, o, next),
+        signs::COLON => crate::symbols::colon(s, o, next),
+        signs::DOT => crate::symbols::dot(s, o, next),
+        signs::EQUALS => crate::symbols::equals(s, o, next),
+        signs::AT => crate::symbols::look(s, o, next),
+        signs::TILDE => crate::symbols::tilde(s, o, next),
+        signs::BACKTICK => words::quotes::escape(s, o, next),
+        signs::QUOTE => words::quotes::lifetimeish(s, o, next),
+        signs::DOUBLE_QUOTE => words::quotes::string_literal(s, o, next),
+        signs::SLASH => crate::symbols::half(o, next),
+        signs::MINUS => crate::symbols::minus(s, o, next),
+        signs::LOWER_R => crate::regex::r_word(s, o, next),
+        _ => {
+            return other(s, c, o, next);
+        }
+    };
+    crate::more(1, x)
 }
 
 // The token that starts with the character c at o, after which the text goes on at next.
@@ -52,24 +55,29 @@ fn token(s: &[u8], c: u32, o: usize, next: usize) -> Call
     requires { ⌜ left (now s) o ≡ c ∷ left (now s) next ⌝ }
     ensures { λ r. ⌜ r ≡ token c (left (now (s .entry)) next) o next ⌝ }
 {
-    match c {
-        signs::HASH => crate::more(1, crate::attribute::hash(s, o, next)),
-        signs::AMPERSAND => reading::plain(Kind::Ampersand, o, next, 1),
-        signs::COMMA => reading::plain(Kind::Comma, o, next, 1),
-        signs::GREATER_THAN => reading::plain(Kind::GreaterThan, o, next, 1),
-        signs::LEFT_BRACE => reading::plain(Kind::LeftBrace, o, next, 1),
-        signs::LEFT_BRACKET => reading::plain(Kind::LeftBracket, o, next, 1),
-        signs::LEFT_PAREN => reading::plain(Kind::LeftParen, o, next, 1),
-        signs::LESS_THAN => reading::plain(Kind::LessThan, o, next, 1),
-        signs::PLUS => reading::plain(Kind::Plus, o, next, 1),
-        signs::QUESTION => reading::plain(Kind::Question, o, next, 1),
-        signs::RIGHT_BRACE => reading::plain(Kind::RightBrace, o, next, 1),
-        signs::RIGHT_BRACKET => reading::plain(Kind::RightBracket, o, next, 1),
-        signs::RIGHT_PAREN => reading::plain(Kind::RightParen, o, next, 1),
-        signs::SEMI => reading::plain(Kind::Semi, o, next, 1),
-        signs::STAR => reading::plain(Kind::Star, o, next, 1),
-        _ => starts(s, c, o, next),
-    }
+    let kind = match c {
+        signs::HASH => {
+            return crate::more(1, crate::attribute::hash(s, o, next));
+        }
+        signs::AMPERSAND => Kind::Ampersand,
+        signs::COMMA => Kind::Comma,
+        signs::GREATER_THAN => Kind::GreaterThan,
+        signs::LEFT_BRACE => Kind::LeftBrace,
+        signs::LEFT_BRACKET => Kind::LeftBracket,
+        signs::LEFT_PAREN => Kind::LeftParen,
+        signs::LESS_THAN => Kind::LessThan,
+        signs::PLUS => Kind::Plus,
+        signs::QUESTION => Kind::Question,
+        signs::RIGHT_BRACE => Kind::RightBrace,
+        signs::RIGHT_BRACKET => Kind::RightBracket,
+        signs::RIGHT_PAREN => Kind::RightParen,
+        signs::SEMI => Kind::Semi,
+        signs::STAR => Kind::Star,
+        _ => {
+            return starts(s, c, o, next);
+        }
+    };
+    reading::plain(kind, o, next, 1)
 }
 
 fn token_or_end(s: &[u8], o: usize) -> Call
