@@ -21,7 +21,7 @@ use Rattle.scan.specs.Readers.{regDone, regStep}
 use Rattle.scan.specs.Runs.{byte-seen, neither, run, run-over}
 use Rattle.scan.specs.Seek.{blockComment, lineSkip, seek, skipMore}
 use Rattle.scan.specs.Steps.{reg-less}
-use Rattle.scan.specs.Turns.{walk-pass}
+use Rattle.scan.specs.Turns.{walk-pass, walk-stop}
 use Rattle.scan.specs.Until.{left, until}
 use Rattle.scan.specs.Walk.{turnOf, walkFrom}
 use Rattle.scan.specs.declared.Found.the-variants.{At, Nothing}
@@ -252,7 +252,16 @@ space-turn x cs at next w =
     let n : x ≡ 47 → ⊥ = λ z. let u : false ≡ true = sym (ap isWhitespace z) ∙ w in let v : _≡_ {A = ℕ} 0 1 = cc in omega arith in
     rw (ne-eqb x 47 n) (rw w)
 
+stop-turn : (x : ℕ) (cs : List ℕ) (at next : ℕ) → (x ≡ 47 → ⊥) → isWhitespace x ≡ false → gapTurn 0 x cs at next ≡ Stop
+unfolding gapTurn
+stop-turn x cs at next n w = rw (ne-eqb x 47 n) (rw w)
+
 module _ (s : List ℕ) where
+  -- a byte below 128 that neither is white space nor starts a comment ends the gap
+  pub gap-over : (at n : ℕ) → at < length s → getD s at 0 < 128 → (getD s at 0 ≡ 47 → ⊥) → isWhitespace (getD s at 0) ≡ false
+      → walkFrom gapTurn gapLast 0 (left s at) 0 at n ≡ Past at n
+  gap-over at n l a b w = walk-stop gapTurn gapLast (byte-seen s at l a) 0 n (stop-turn (getD s at 0) (left s (at + 1)) at (at + 1) b w)
+
   gap-on : (at n : ℕ) → at < length s → gapStop (getD s at 0) ≡ false
       → walkFrom gapTurn gapLast 0 (left s at) 0 at n ≡ walkFrom gapTurn gapLast 0 (left s (at + 1)) 0 (at + 1) (n + 1)
   gap-on at n l e =

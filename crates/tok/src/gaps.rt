@@ -4,14 +4,16 @@ use scan::Sought;
 use scan::Turn;
 use utf8::Sight;
 use utf8::signs;
-ghost use Prim.Native.Nat.{_+_};
+ghost use Prim.Native.Nat.{ℕ, _+_};
+ghost use mathlib.Core.Bool.{true};
 ghost use mathlib.Core.Path.{_≡_};
 ghost use lib.ListN.{drop};
 ghost use Rattle.scan.specs.Runs.{run};
 ghost use Rattle.scan.specs.Seek.{blockComment, skipMore};
 ghost use Rattle.scan.specs.Until.{left};
-ghost use Rattle.scan.specs.Walk.{turnOf};
-ghost use Rattle.reading.specs.Gaps.{commentTurn, gapTurn, gap};
+ghost use Rattle.scan.specs.declared.Skip.the-variants.{Past};
+ghost use Rattle.scan.specs.Walk.{turnOf, walkFrom};
+ghost use Rattle.reading.specs.Gaps.{commentTurn, gapTurn, gapLast, gap};
 ghost use Rattle.reading.specs.Steps.{gapStop};
 
 // A block comment that starts at o, from after its slash and star; the star is counted.
@@ -79,8 +81,25 @@ fn gap_run(s: &[u8], from: usize) -> usize
     at
 }
 
-// What stands before the next token.
-pub fn gap(s: &[u8], from: usize) -> Skip
+// Whether a byte below 128 stands at a place that neither is white space nor starts a comment: most gaps end at one.
+fn is_over(s: &[u8], at: usize) -> bool
+    ensures { λ r. ⌜ (r ≡ true → ((n : ℕ) → walkFrom gapTurn gapLast 0 (left (now (s .entry)) at) 0 at n ≡ Past at n)) ⌝ }
+{
+    if s.len() <= at {
+        return false;
+    }
+    let x = wide(s[at]);
+    if 128 <= x {
+        return false;
+    }
+    if x == signs::SLASH {
+        return false;
+    }
+    !unicode::is_whitespace(x)
+}
+
+// A gap of any kind.
+fn gap_far(s: &[u8], from: usize) -> Skip
     ensures { λ r. ⌜ r ≡ gap (left (now (s .entry)) from) from ⌝ }
 {
     let mut at = from;
@@ -107,4 +126,15 @@ pub fn gap(s: &[u8], from: usize) -> Skip
             }
         }
     }
+}
+
+// What stands before the next token: white space below 128 and no more, most often.
+pub fn gap(s: &[u8], from: usize) -> Skip
+    ensures { λ r. ⌜ r ≡ gap (left (now (s .entry)) from) from ⌝ }
+{
+    let to = gap_run(s, from);
+    if is_over(s, to) {
+        return Skip::Past(to, to - from);
+    }
+    gap_far(s, from)
 }

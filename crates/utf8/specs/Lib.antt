@@ -7,3 +7,4 @@ pub mod RoundTrip
 pub mod Picks
 pub mod Forms
 pub mod Laws
+pub mod Widths

@@ -3,9 +3,10 @@ pub mod signs;
 
 ghost use mathlib.Core.Path.{_≡_};
 ghost use mathlib.Core.Bool.{true};
-ghost use Prim.Native.Nat.{_≤_};
+ghost use Prim.Native.Nat.{_≤_, _<_};
 ghost use lib.ListN.{length, getD};
 ghost use Rattle.utf8.specs.declared.Utf8.the-variants.{Valid};
+ghost use Rattle.utf8.specs.Widths.{Passes};
 ghost use Rattle.utf8.specs.Utf8.{low, high, lead, sightAt, verdict, boundary};
 
 // What is seen at a place: a character, with its width in bytes, or that no well-formed one starts there.
@@ -132,6 +133,49 @@ fn ascii(s: &[u8]) -> bool
     m
 }
 
+// The width of the character at a place, where it has one of the commonest forms: one byte, two, or three that need no closer look. Else 0.
+fn width_at(s: &[u8], at: usize) -> usize
+    ensures { λ r. ⌜ (0 < r → Passes (now (s .entry)) at r) ⌝ }
+{
+    if s.len() <= at {
+        return 0;
+    }
+    let a = s[at];
+    if a < 128 {
+        return 1;
+    }
+    if s.len() - at < 3 {
+        return 0;
+    }
+    let b = s[at + 1];
+    if b < 128 {
+        return 0;
+    }
+    if 191 < b {
+        return 0;
+    }
+    if a <= 193 {
+        return 0;
+    }
+    if a < 224 {
+        return 2;
+    }
+    let c = s[at + 2];
+    if c < 128 {
+        return 0;
+    }
+    if 191 < c {
+        return 0;
+    }
+    if a < 225 {
+        return 0;
+    }
+    if a < 237 {
+        return 3;
+    }
+    0
+}
+
 // Whether s is well formed.
 pub fn check(s: &[u8]) -> Utf8
     ensures { λ r. ⌜ r ≡ verdict (now (s .entry)) ⌝ }
@@ -141,15 +185,20 @@ pub fn check(s: &[u8]) -> Utf8
     }
     let mut at = 0;
     loop {
-        match char_at(s, at) {
-            Sight::Char { code: _, width } => {
-                at += width;
-            }
-            Sight::End => {
-                if at == s.len() {
-                    return Utf8::Valid;
+        let w = width_at(s, at);
+        if 0 < w {
+            at += w;
+        } else {
+            match char_at(s, at) {
+                Sight::Char { code: _, width } => {
+                    at += width;
                 }
-                return Utf8::Bad(at);
+                Sight::End => {
+                    if at == s.len() {
+                        return Utf8::Valid;
+                    }
+                    return Utf8::Bad(at);
+                }
             }
         }
     }

@@ -1,143 +1,37 @@
 -- `tok::gaps::gap` meets its contract.
-use Prim.Native.Nat.{ℕ, _≤_, _-_, _+_}
-use mathlib.Core.Path.{_≡_, refl, sym, _∙_}
-use mathlib.Core.List.{List}
+use Prim.Native.Nat.{_+_, _-_}
+use mathlib.Core.Path.{_≡_, sym, _∙_}
 use native.Mathlib.Omega.{arith}
-use lib.ListN.{length, drop}
+use Rattle.reading.specs.Gaps.{gap}
+use Rattle.reading.specs.Steps.{gap-run}
 use borrow.Author.Needs.{needs}
-use Rattle.utf8.specs.Utf8.{chars}
-use Rattle.utf8.specs.Laws.{Seen, seen, ended}
-use Rattle.scan.specs.Far.{Lands, lands}
-use Rattle.scan.specs.Turns.{walk-end, walk-fail, walk-pass, walk-stop}
-use Rattle.scan.specs.Walk.{walkFrom}
-use Rattle.reading.specs.Gaps.{gap, gapLast, gapTurn}
-use Rattle.reading.specs.Steps.{gap-fail, gap-pass, gap-run, gap-state}
 use Rattle.tok.proofs.gaps.gap.Statement.{statement}
 use Rattle.tok.proofs.gaps.gap.Tie as tie
 
-abbrev Inv-loop : tie.InvT-loop
-Inv-loop s from at₀ n₀ at n = (n + from ≤ at) × (walkFrom gapTurn gapLast 0 (chars (drop at s)) 0 at n ≡ gap (chars (drop from s)) from)
-
-abbrev μ-loop : tie.MeasureT-loop
-μ-loop s from at₀ n₀ at n = length s - at
-
--- after a turn's run: the place, and the invariant there
-abbrev P : tie.After-gap-run Inv-loop μ-loop → ℕ
-P c = c .gap-run .result
-
-spaced : (c : tie.After-gap-run Inv-loop μ-loop) → Inv-loop (c .before .before .before .args .s .now) (c .before .before .before .args .from) (c .before .before .before .args .from) 0 (P c) (c .before .loop .n + (P c - c .before .loop .at))
-spaced c =
-    let l = c .gap-run .ensures in
-    (omega arith, gap-run _ _ _ _ l ∙ c .before .loop .inv .1)
-
--- a turn's text, character and width
-abbrev S : tie.After-known-told Inv-loop μ-loop → List ℕ
-S c = c .before .before .before .before .before .before .before .args .s .now
-
-abbrev K : tie.After-known-told Inv-loop μ-loop → ℕ
-K c = c .before .code .given .0 .0
-
-abbrev W : tie.After-known-told Inv-loop μ-loop → ℕ
-W c = c .before .code .given .0 .1 .0
-
-here : (c : tie.After-known-told Inv-loop μ-loop) → Seen (S c) (P (c .before .before .before .before)) (K c) (W c)
-here c = seen _ _ _ _ (sym (c .before .before .before .char-at .ensures) ∙ c .before .code .given .1)
-
--- where a turn that passes leads, and a turn that fails
-far : (c : tie.After-known-told3 Inv-loop μ-loop) → Lands (S (c .before .before .before .before)) (P (c .before .before .before .before .before .before .before .before) + W (c .before .before .before .before)) (c .before .p .given .0 .1 .0) (c .before .p .given .0 .0)
-far c = lands _ _ _ _ (gap-pass _ _ _ _ _ _ _ _ (sym (c .before .before .before .gap-turn .ensures) ∙ c .before .p .given .1))
-
-lost : (c : tie.After-known-told2 Inv-loop μ-loop) → Lands (S (c .before .before .before .before)) (P (c .before .before .before .before .before .before .before .before) + W (c .before .before .before .before)) (c .before .r .given .0 .1 .1 .0) (c .before .r .given .0 .1 .0)
-lost c = lands _ _ _ _ (gap-fail _ _ _ _ _ _ _ _ (sym (c .before .before .before .gap-turn .ensures) ∙ c .before .r .given .1))
-
-loop-holds : tie.Need-loop-holds Inv-loop μ-loop
-unfolding gap
-loop-holds c = (omega arith, refl)
-
-gap-run-requires : tie.Need-gap-run-requires Inv-loop μ-loop
+gap-run-requires : tie.Need-gap-run-requires
 gap-run-requires c κs = search needs
 
-sub-n : tie.Need-sub-n Inv-loop μ-loop
-sub-n c = omega (arith, c .gap-run .ensures)
+is-over-requires : tie.Need-is-over-requires
+is-over-requires c κs = search needs
 
-add-n : tie.Need-add-n Inv-loop μ-loop
-add-n c = omega (arith, c .gap-run .ensures)
+sub-t5 : tie.Need-sub-t5
+sub-t5 c = search needs
 
-char-at-requires : tie.Need-char-at-requires Inv-loop μ-loop
-char-at-requires c κs = tt
+returns : tie.Need-returns
+unfolding gap
+returns c =
+    let from = c .before .before .before .before .args .from in
+    let to = c .before .before .gap-run .result in
+    let q : 0 + (to - from) ≡ to - from = omega arith in
+    sym (c .before .is-over .ensures (c .if1 .taken) (to - from)) ∙ rw q at (gap-run (c .before .before .before .before .args .s .now) from to 0 (c .before .before .gap-run .ensures))
 
-enum-known-code : tie.Need-enum-known-code Inv-loop μ-loop
-enum-known-code c = search needs
+gap-far-requires : tie.Need-gap-far-requires
+gap-far-requires c κs = search needs
 
-add-gap-turn : tie.Need-add-gap-turn Inv-loop μ-loop
-add-gap-turn c = omega (arith, here c)
-
-gap-turn-requires : tie.Need-gap-turn-requires Inv-loop μ-loop
-gap-turn-requires c κs = tt
-
-enum-told : tie.Need-enum-told Inv-loop μ-loop
-enum-told c = search needs
-
-returns : tie.Need-returns Inv-loop μ-loop
-returns c = sym (walk-stop gapTurn gapLast (here (c .before .before .before)) 0 _ (sym (c .before .before .gap-turn .ensures) ∙ c .enum-told .given .1)) ∙ spaced (c .before .before .before .before .before .before .before) .1
-
-enum-known-r : tie.Need-enum-known-r Inv-loop μ-loop
-enum-known-r c = search needs
-
-add-t17 : tie.Need-add-t17 Inv-loop μ-loop
-add-t17 c = let h = here (c .before .before .before .before) in let f = lost c in let i = spaced (c .before .before .before .before .before .before .before .before) in omega (arith, f .room (h .room), f .gone)
-
-add-t18 : tie.Need-add-t18 Inv-loop μ-loop
-add-t18 c = let h = here (c .before .before .before .before) in let f = lost c in let i = spaced (c .before .before .before .before .before .before .before .before) in omega (arith, f .room (h .room), f .gone)
-
-returns-2 : tie.Need-returns-2 Inv-loop μ-loop
-returns-2 c = sym (walk-fail gapTurn gapLast (here (c .before .before .before .before)) 0 _ (sym (c .before .before .before .gap-turn .ensures) ∙ c .before .r .given .1)) ∙ spaced (c .before .before .before .before .before .before .before .before) .1
-
-enum-known-p : tie.Need-enum-known-p Inv-loop μ-loop
-enum-known-p c = search needs
-
-add-n-2 : tie.Need-add-n-2 Inv-loop μ-loop
-add-n-2 c = let i = spaced (c .before .before .before .before .before .before .before .before) in omega (arith, here (c .before .before .before .before))
-
-add-n-3 : tie.Need-add-n-3 Inv-loop μ-loop
-add-n-3 c = let h = here (c .before .before .before .before) in let f = far c in let i = spaced (c .before .before .before .before .before .before .before .before) in omega (arith, f .room (h .room), f .gone)
-
-loop-less : tie.Need-loop-less Inv-loop μ-loop
-loop-less c = let h = here (c .before .before .before .before) in let f = far c in let l = c .before .before .before .before .before .before .before .before .gap-run .ensures in omega (arith, f .room (h .room), f .gone)
-
-loop-again : tie.Need-loop-again Inv-loop μ-loop
-loop-again c = let h = here (c .before .before .before .before) in let f = far c in let g = f .gone in let i = spaced (c .before .before .before .before .before .before .before .before) in (omega arith, gap-state 0 _ 0 _ _ _ ∙ sym (walk-pass gapTurn gapLast h 0 _ (sym (c .before .before .before .gap-turn .ensures) ∙ c .before .p .given .1) f) ∙ i .1)
-
-enum-told-2 : tie.Need-enum-told-2 Inv-loop μ-loop
-enum-told-2 c = search needs
-
-returns-3 : tie.Need-returns-3 Inv-loop μ-loop
-returns-3 c = sym (walk-end gapTurn gapLast (ended _ _ (sym (c .before .before .char-at .ensures) ∙ c .enum-told2 .given .1)) 0 _) ∙ spaced (c .before .before .before) .1
+returns-2 : tie.Need-returns-2
+returns-2 c = search needs
 
 pub gap-spec : {M : Type 1} → statement M
 gap-spec =
     tie.close
-    (tie.spec
-    Inv-loop
-    μ-loop
-    loop-holds
-    gap-run-requires
-    sub-n
-    add-n
-    char-at-requires
-    enum-known-code
-    add-gap-turn
-    gap-turn-requires
-    enum-told
-    returns
-    enum-known-r
-    add-t17
-    add-t18
-    returns-2
-    enum-known-p
-    add-n-2
-    add-n-3
-    loop-less
-    loop-again
-    enum-told-2
-    returns-3)
+    (tie.spec gap-run-requires is-over-requires sub-t5 returns gap-far-requires returns-2)
