@@ -141,13 +141,7 @@ fn token_in(e: Entry) -> Token
 {
     let start = e.start;
     let kind = kind_in(e.kind);
-    Token {
-        kind,
-        start,
-        end: e.end,
-        payload_start: start,
-        payload_end: start,
-    }
+    record::token_of(kind, start, e.end, start, start)
 }
 
 // Whether a record may not follow one that ends at `before`.
@@ -307,13 +301,7 @@ fn pending_at(file: &[u8], answer: Answer, at: usize) -> Pending
     Pending {
         going: false,
         at,
-        token: Token {
-            kind: Kind::Enum,
-            start: 0,
-            end: 0,
-            payload_start: 0,
-            payload_end: 0,
-        },
+        token: record::token_of(Kind::Enum, 0, 0, 0, 0),
         answer,
     }
 }

@@ -1,4 +1,4 @@
-// What a call and a run answer. The reading rules stand in specs/, as definitions over characters; `tok` has the code.
+// What a call and a run answer. The reading rules stand in specs/, as definitions over characters; `words` and `tok` have the code.
 use record::Code;
 use record::Kind;
 use record::Refusal;

@@ -30,13 +30,16 @@ returns c =
     let h : a .at < delivered (a .answer) = omega (arith, c .before .before .before .count-of .ensures) in
     simp (lt-ltb _ _ h) (rw (c .token-in .ensures ∙ ap tokenIn (c .before .entry-at .ensures)))
 
+token-of-requires : tie.Need-token-of-requires
+token-of-requires c κs = search needs
+
 returns-2 : tie.Need-returns-2
 unfolding pendingAt
 returns-2 c =
-    let a = c .before .before .before .args in
-    let h : delivered (a .answer) ≤ a .at = omega (arith, c .before .count-of .ensures) in
-    simp (le-ltb _ _ h)
+    let a = c .before .before .before .before .args in
+    let h : delivered (a .answer) ≤ a .at = omega (arith, c .before .before .count-of .ensures) in
+    simp (le-ltb _ _ h) (rw (c .token-of .ensures))
 
 pub pending-at-spec : {M : Type 1} → statement M
 pending-at-spec =
-    tie.close (tie.spec count-of-requires entry-at-requires token-in-requires returns returns-2)
+    tie.close (tie.spec count-of-requires entry-at-requires token-in-requires returns token-of-requires returns-2)

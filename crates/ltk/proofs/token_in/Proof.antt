@@ -9,8 +9,11 @@ use Rattle.ltk.proofs.kind_in.Reads as kind-in-reads
 kind-in-requires : tie.Need-kind-in-requires
 kind-in-requires c κs = search needs
 
+token-of-requires : tie.Need-token-of-requires
+token-of-requires c κs = search needs
+
 returns : tie.Need-returns
-returns c = rw (c .kind-in .ensures)
+returns c = rw (← (c .before .kind-in .ensures)) (c .token-of .ensures)
 
 pub token-in-spec : {M : Type 1} → statement M
-token-in-spec = tie.close (tie.spec kind-in-requires returns)
+token-in-spec = tie.close (tie.spec kind-in-requires token-of-requires returns)
