@@ -1,4 +1,5 @@
--- 01: "Kinds number 0 to 53 in the order of the `Tok` enum, the dummies absent"; refusals number 1 to 20 as in its table.
+-- 01: "Kinds number 0 to 53 in the order of the `Tok` enum, the dummies absent"; refusals number 1 to 20 as in its table,
+-- and 21 to 29 as in document 02's.
 use mathlib.Core.Path.{_≡_, refl}
 use mathlib.Core.Bool.{Bool, cond}
 use mathlib.Core.List.{List, [], _∷_}
@@ -10,7 +11,7 @@ use Rattle.record.specs.declared.Kind.the-variants.{Enum, Extern, Gramma
 use Rattle.record.specs.declared.Known.{Known}
 use Rattle.record.specs.declared.Known.the-variants.{Kind as AKind, Nothing}
 use Rattle.record.specs.declared.Code.{Code}
-use Rattle.record.specs.declared.Code.the-variants.{UnrecognizedToken, UnterminatedEscape, UnterminatedAsciiEscape, UnrecognizedEscape, UnterminatedStringLiteral, UnterminatedCharacterLiteral, UnterminatedAttribute, UnterminatedCode, ExpectedStringLiteral, UnterminatedBlockComment, NotUtf8, TooLong, ShiftTooLarge, NoRoom, WorkLimit, TrailingBackslash, BadMark, UnknownVersion, BadLength, BadRecord}
+use Rattle.record.specs.declared.Code.the-variants.{UnrecognizedToken, UnterminatedEscape, UnterminatedAsciiEscape, UnrecognizedEscape, UnterminatedStringLiteral, UnterminatedCharacterLiteral, UnterminatedAttribute, UnterminatedCode, ExpectedStringLiteral, UnterminatedBlockComment, NotUtf8, TooLong, ShiftTooLarge, NoRoom, WorkLimit, TrailingBackslash, BadMark, UnknownVersion, BadLength, BadRecord, SheetFull, HalfSymbol, StrayCharacter, UnknownReading, TooDeep, TextMismatch, ChangeListFull, BadEdit, StaleRecords}
 
 abbrev pub kindNumber : Kind → ℕ
 kindNumber Enum = 0
@@ -89,6 +90,15 @@ codeNumber BadMark = 17
 codeNumber UnknownVersion = 18
 codeNumber BadLength = 19
 codeNumber BadRecord = 20
+codeNumber SheetFull = 21
+codeNumber HalfSymbol = 22
+codeNumber StrayCharacter = 23
+codeNumber UnknownReading = 24
+codeNumber TooDeep = 25
+codeNumber TextMismatch = 26
+codeNumber ChangeListFull = 27
+codeNumber BadEdit = 28
+codeNumber StaleRecords = 29
 
 -- the kinds, and the refusals, in the order of their numbers
 unfoldable pub kinds : List Kind
@@ -105,7 +115,8 @@ codes =
     UnrecognizedToken ∷ UnterminatedEscape ∷ UnterminatedAsciiEscape ∷ UnrecognizedEscape ∷ UnterminatedStringLiteral ∷
     UnterminatedCharacterLiteral ∷ UnterminatedAttribute ∷ UnterminatedCode ∷ ExpectedStringLiteral ∷ UnterminatedBlockComment ∷
     NotUtf8 ∷ TooLong ∷ ShiftTooLarge ∷ NoRoom ∷ WorkLimit ∷ TrailingBackslash ∷ BadMark ∷ UnknownVersion ∷ BadLength ∷
-    BadRecord ∷ []
+    BadRecord ∷ SheetFull ∷ HalfSymbol ∷ StrayCharacter ∷ UnknownReading ∷ TooDeep ∷ TextMismatch ∷
+    ChangeListFull ∷ BadEdit ∷ StaleRecords ∷ []
 
 -- the kind that has a number
 unfoldable pub kindOf : ℕ → Known
@@ -196,3 +207,12 @@ code-again BadMark = refl
 code-again UnknownVersion = refl
 code-again BadLength = refl
 code-again BadRecord = refl
+code-again SheetFull = refl
+code-again HalfSymbol = refl
+code-again StrayCharacter = refl
+code-again UnknownReading = refl
+code-again TooDeep = refl
+code-again TextMismatch = refl
+code-again ChangeListFull = refl
+code-again BadEdit = refl
+code-again StaleRecords = refl

@@ -85,6 +85,16 @@ pub enum Code {
     UnknownVersion,
     BadLength,
     BadRecord,
+    // 21 to 29: what document 02's requests will answer, and nothing answers yet
+    SheetFull,
+    HalfSymbol,
+    StrayCharacter,
+    UnknownReading,
+    TooDeep,
+    TextMismatch,
+    ChangeListFull,
+    BadEdit,
+    StaleRecords,
 }
 
 pub struct Refusal {
@@ -139,6 +149,15 @@ pub fn code_number(c: Code) -> u8
         Code::UnknownVersion => 18,
         Code::BadLength => 19,
         Code::BadRecord => 20,
+        Code::SheetFull => 21,
+        Code::HalfSymbol => 22,
+        Code::StrayCharacter => 23,
+        Code::UnknownReading => 24,
+        Code::TooDeep => 25,
+        Code::TextMismatch => 26,
+        Code::ChangeListFull => 27,
+        Code::BadEdit => 28,
+        Code::StaleRecords => 29,
     }
 }
 
