@@ -1,5 +1,6 @@
 -- what a reader must believe
 pub mod Hex
-pub mod Passes
+pub mod Lines
+pub mod Examples
 -- the laws that the code cites
 pub mod Laws

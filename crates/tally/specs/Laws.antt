@@ -1,124 +1,136 @@
--- What the loop over a span keeps: what is known of the code points asked so far.
-use Prim.Native.Nat.{ℕ, zero, suc, _+_, _-_, _*_, _≤_, _<_}
-use mathlib.Core.Path.{_≡_, refl, sym, ap, _∙_}
-use mathlib.Core.Bool.{Bool, true, false, not, _||_}
-use mathlib.Core.List.{List, [], _∷_, _++_}
+-- What a turn of each loop keeps.
+use Prim.Native.Nat.{ℕ, zero, suc, _+_, _-_, _≤_, _<_}
+use mathlib.Core.Path.{_≡_, refl, sym, _∙_}
+use mathlib.Core.Bool.{Bool, true, false, cond}
+use mathlib.Core.List.{List}
 use native.Mathlib.Omega.{arith}
 use lib.Dec.{eqb, ltb}
-use lib.ListN.{length, getD, take, drop, length-drop}
-use lib.Seq.{take-suc, getD-drop}
-use borrow.Author.Tests.{eqb-true, eqb-false}
-use Rattle.utf8.specs.Picks.{tests}
+use lib.ListN.{length}
+use borrow.Author.Tests.{lt-ltb, le-ltb, ne-eqb}
+use Rattle.utf8.specs.Picks.{by-test, tests}
 use Rattle.property.specs.declared.line.Property.{Property}
-use Rattle.tally.specs.declared.tally.Span.{Span}
-use Rattle.tally.specs.Spans.{asked, besides, other, noted, one, named, SpanOf}
+use Rattle.property.specs.declared.line.Line.{Line}
+use Rattle.property.specs.declared.line.Line.the-variants.{Nothing, Range, Damaged}
+use Rattle.property.specs.Lines.{lineAt}
+use Rattle.tally.specs.declared.tally.Tally.{Tally}
+use Rattle.tally.specs.Answers.{asked, wanted, other, numberOf, one}
+use Rattle.tally.specs.Tallies.{end, freshTally, noted, stepOf, stepsOf, upTo, spoiltOf, withRange, withLine, linesFrom, ofLines, tallyOf}
 
--- no more are named than there are
-pub named-few : (p : Property) (from n : ℕ) → named p from n ≤ n
-unfolding named
-named-few p from zero = omega arith
-named-few p from (suc n) = go (asked p (from + n)) (named-few p from n)
+-- a tally counts no more than the code points that it has passed
+pub record Sane (t : Tally) : Type 0 where
+  pub next : t .next ≤ end
+  pub told : t .told ≤ t .next
+  pub yes : t .yes ≤ t .next
+
+pub sane-fresh : Sane freshTally
+sane-fresh = record { next = omega arith; told = omega arith; yes = omega arith }
+
+pub one-most : (t : Bool) → one t ≤ 1
+one-most true = omega arith
+one-most false = omega arith
+
+pub sane-step : (p : Property) (told : Bool) (t : Tally) → t .next < end → Sane t → Sane (stepOf p told t)
+unfolding stepOf
+sane-step p told t l h =
+    record {
+      next = omega arith;
+      told = omega (arith, h .told, one-most told);
+      yes = omega (arith, h .yes, one-most (asked p (t .next)));
+    }
+
+pub sane-steps : (p : Property) (told : Bool) (n : ℕ) (t : Tally) → t .next + n ≤ end → Sane t → Sane (stepsOf p told n t)
+unfolding stepsOf stepOf
+sane-steps p told zero t l h = h
+sane-steps p told (suc n) t l h = sane-steps p told n (stepOf p told t) (omega arith) (sane-step p told t (omega arith) h)
+
+steps-next : (p : Property) (told : Bool) (n : ℕ) (t : Tally) → stepsOf p told n t .next ≡ t .next + n
+unfolding stepsOf stepOf
+steps-next p told zero t = omega arith
+steps-next p told (suc n) t = omega (arith, steps-next p told n (stepOf p told t))
+
+-- up to a place that is not passed yet
+pub sane-up : (p : Property) (told : Bool) (to : ℕ) (t : Tally) → t .next ≤ to → to ≤ end → Sane t → Sane (upTo p told to t)
+sane-up p told to t l m h = sane-steps p told (to - t .next) t (omega arith) h
+
+pub up-next : (p : Property) (told : Bool) (to : ℕ) (t : Tally) → t .next ≤ to → upTo p told to t .next ≡ to
+up-next p told to t l = omega (arith, steps-next p told (to - t .next) t)
+
+-- THE LOOP OVER CODE POINTS
+pub up-on : (p : Property) (told : Bool) (to : ℕ) (t : Tally) → t .next < to → upTo p told to (stepOf p told t) ≡ upTo p told to t
+unfolding stepsOf stepOf
+up-on p told to t l =
+    let e : to - t .next ≡ suc (to - (t .next + 1)) = omega arith in
+    rw e
+
+pub up-end : (p : Property) (told : Bool) (to : ℕ) (t : Tally) → to ≤ t .next → t ≡ upTo p told to t
+unfolding stepsOf
+up-end p told to t l =
+    let e : to - t .next ≡ 0 = omega arith in
+    rw e
+
+-- A LINE
+pub sane-spoilt : (n : ℕ) (t : Tally) → Sane t → Sane (spoiltOf n t)
+unfolding spoiltOf
+sane-spoilt n t h = by-test Sane (eqb (t .damaged) 0) _ t (λ q. record { next = h .next; told = h .told; yes = h .yes }) (λ q. h)
+
+sane-range : (p : Property) (n first last : ℕ) (t : Tally) → Sane t → Sane (withRange p n first last t)
+unfolding withRange
+sane-range p n first last t h = go (ltb first (t .next)) (ltb last first) (ltb last end) refl refl refl
   where
-    go : (t : Bool) → named p from n ≤ n → named p from n + one t ≤ suc n
-    go true h = omega arith
-    go false h = omega arith
+    go : (a b d : Bool) → ltb first (t .next) ≡ a → ltb last first ≡ b → ltb last end ≡ d
+        → Sane (cond a (spoiltOf n t) (cond b (spoiltOf n t) (cond d (upTo p true (last + 1) (upTo p false first t)) (spoiltOf n t))))
+    go true b d q r u = sane-spoilt n t h
+    go false true d q r u = sane-spoilt n t h
+    go false false false q r u = sane-spoilt n t h
+    go false false true q r u =
+        let l : t .next ≤ first = omega tests in
+        let m : first ≤ last = omega tests in
+        let k : last < end = omega tests in
+        sane-up p true (last + 1) (upTo p false first t) (omega (arith, up-next p false first t l)) (omega arith) (sane-up p false first t l (omega arith) h)
 
--- THE LOOP OVER A SPAN: what is known below the code point c
-pub record Going (p : Property) (from to : ℕ) (told : Bool) (yes first c : ℕ) : Type 0 where
-  pub least : from ≤ c
-  pub most : c ≤ to
-  pub within : first ≤ to
-  pub before : (k : ℕ) → from ≤ k → k < c → k < first → asked p k ≡ (told || besides p k)
-  pub there : first < to → (first < c) × (asked p first ≡ not (told || besides p first))
-  pub count : yes ≡ named p from (c - from)
+pub sane-line : (p : Property) (n : ℕ) (l : Line) (t : Tally) → Sane t → Sane (withLine p n l t)
+unfolding withLine
+sane-line p n Nothing t h = h
+sane-line p n Damaged t h = sane-spoilt n t h
+sane-line p n (Range first last q) t h =
+    by-test Sane (eqb (numberOf q) (numberOf p)) (withRange p n first last t) t (λ e. sane-range p n first last t h) (λ e. h)
 
-pub going-start : (p : Property) (from to : ℕ) (told : Bool) → from ≤ to → Going p from to told 0 to from
-unfolding named
-going-start p from to told h =
-    let z : from - from ≡ 0 = omega arith in
-    record {
-      least = omega arith;
-      most = h;
-      within = omega arith;
-      before = λ k a b d. absurd (omega arith);
-      there = λ a. absurd (omega arith);
-      count = rw z;
-    }
+-- THE LOOP OVER LINES
+pub lines-on : (s : List ℕ) (p : Property) (at n : ℕ) (t : Tally) → n ≤ at → at < length s
+    → linesFrom (length s - (n + 1)) s p (lineAt s at .next) (n + 1) (withLine p (n + 1) (lineAt s at .line) t) ≡ linesFrom (length s - n) s p at n t
+unfolding linesFrom
+lines-on s p at n t l h =
+    let e : length s - n ≡ suc (length s - (n + 1)) = omega arith in
+    rw (e, linesFrom, lt-ltb at (length s) h)
 
-going-count : (p : Property) (from c yes : ℕ) → from ≤ c → yes ≡ named p from (c - from) → yes + one (asked p c) ≡ named p from (c + 1 - from)
-unfolding named
-going-count p from c y h e =
-    let j : c + 1 - from ≡ suc (c - from) = omega arith in
-    let i : from + (c - from) ≡ c = omega arith in
-    rw (j, named, i, e)
+pub lines-end : (k : ℕ) (s : List ℕ) (p : Property) (at n : ℕ) (t : Tally) → length s ≤ at → t ≡ linesFrom k s p at n t
+unfolding linesFrom
+lines-end zero s p at n t h = refl
+lines-end (suc k) s p at n t h = rw (linesFrom, le-ltb at (length s) h)
 
-other-false : (a w : Bool) → other a w ≡ false → a ≡ w
-other-false true true e = refl
-other-false true false e = e
-other-false false true e = sym e
-other-false false false e = refl
+-- AFTER THE LAST LINE what was noted stays
+noted-stays : (first c : ℕ) (d : Bool) → (first ≡ end → ⊥) → noted first c d ≡ first
+unfolding noted
+noted-stays first c true h = rw (ne-eqb first end h)
+noted-stays first c false h = refl
 
-other-true : (a w : Bool) → other a w ≡ true → a ≡ not w
-other-true true true e = sym e
-other-true true false e = refl
-other-true false true e = refl
-other-true false false e = e
+steps-first : (p : Property) (told : Bool) (n : ℕ) (t : Tally) → (t .first ≡ end → ⊥) → stepsOf p told n t .first ≡ t .first
+unfolding stepsOf stepOf
+steps-first p told zero t h = refl
+steps-first p told (suc n) t h =
+    let e = noted-stays (t .first) (t .next) (other (asked p (t .next)) (wanted p told (t .next))) h in
+    steps-first p told n (stepOf p told t) (λ m. h (sym e ∙ m)) ∙ e
 
-module _ (p : Property) (from to : ℕ) (told : Bool) (yes first c : ℕ) (g : Going p from to told yes first c) (l : c < to) where
-  -- the same place stays noted, if c is as told or lies after it
-  going-same : (c < first → asked p c ≡ (told || besides p c)) → (yes′ : ℕ) → yes′ ≡ named p from (c + 1 - from) → Going p from to told yes′ first (c + 1)
-  going-same e yes′ n =
-      record {
-        least = omega (arith, g .least);
-        most = omega arith;
-        within = g .within;
-        before = λ k a b d. go k a b d (ltb k c) refl;
-        there = λ a. (omega (arith, g .there a), g .there a .1);
-        count = n;
-      }
-    where
-      go : (k : ℕ) → from ≤ k → k < c + 1 → k < first → (t : Bool) → ltb k c ≡ t → asked p k ≡ (told || besides p k)
-      go k a b d true q = g .before k a (omega tests) d
-      go k a b d false q = let m : c ≡ k = omega tests in rw (← m) (e (omega tests))
+steps-damaged : (p : Property) (told : Bool) (n : ℕ) (t : Tally) → stepsOf p told n t .damaged ≡ t .damaged
+unfolding stepsOf stepOf
+steps-damaged p told zero t = refl
+steps-damaged p told (suc n) t = steps-damaged p told n (stepOf p told t)
 
-  -- c is the first that is not as told
-  going-noted : first ≡ to → asked p c ≡ not (told || besides p c) → (yes′ : ℕ) → yes′ ≡ named p from (c + 1 - from) → Going p from to told yes′ c (c + 1)
-  going-noted m e yes′ n =
-      record {
-        least = omega (arith, g .least);
-        most = omega arith;
-        within = omega arith;
-        before = λ k a b d. g .before k a d (omega arith);
-        there = λ a. (omega arith, e);
-        count = n;
-      }
+-- a difference in a file's lines is the file's
+pub tally-first : (s : List ℕ) (p : Property) (c : ℕ) → ofLines s p .first ≡ c → c < end → tallyOf s p .first ≡ c
+unfolding tallyOf
+tally-first s p c e l = steps-first p false (end - ofLines s p .next) (ofLines s p) (λ m. omega arith) ∙ e
 
-  pub going-on : (yes′ first′ : ℕ) → first′ ≡ noted first to c (other (asked p c) (told || besides p c)) → yes′ ≡ yes + one (asked p c)
-      → Going p from to told yes′ first′ (c + 1)
-  unfolding noted
-  going-on yes′ first′ e f = go (other (asked p c) (told || besides p c)) (eqb first to) refl refl
-    where
-      n : yes′ ≡ named p from (c + 1 - from)
-      n = f ∙ going-count p from c yes (g .least) (g .count)
-
-      go : (t u : Bool) → other (asked p c) (told || besides p c) ≡ t → eqb first to ≡ u → Going p from to told yes′ first′ (c + 1)
-      go false u q r = let m : first′ ≡ first = rw q at e in rw m (going-same (λ a. other-false (asked p c) (told || besides p c) q) yes′ n)
-      go true true q r = let m : first′ ≡ c = rw (q, r) at e in rw m (going-noted (eqb-true _ _ r) (other-true (asked p c) (told || besides p c) q) yes′ n)
-      go true false q r =
-          let m : first′ ≡ first = rw (q, r) at e in
-          let w : first ≤ to = g .within in
-          let d : first < to = omega (arith, eqb-false first to r) in
-          rw m (going-same (λ a. absurd (omega (arith, g .there d))) yes′ n)
-
-pub going-done : (p : Property) (from to : ℕ) (told : Bool) (r : Span) (c : ℕ) → Going p from to told (r .yes) (r .first) c → to ≤ c → SpanOf p from to told r
-going-done p from to told r c g l =
-    let m : c ≡ to = omega (arith, g .most) in
-    record {
-      within = g .within;
-      before = λ k a d. g .before k a (omega (arith, g .within)) d;
-      there = λ a. g .there a .1;
-      count = rw (← m) (g .count);
-    }
-
-pub span-few : (p : Property) (from to : ℕ) (told : Bool) (r : Span) → SpanOf p from to told r → r .yes ≤ to - from
-span-few p from to told r h = omega (arith, h .count, named-few p from (to - from))
+pub tally-damaged : (s : List ℕ) (p : Property) → tallyOf s p .damaged ≡ ofLines s p .damaged
+unfolding tallyOf
+tally-damaged s p = steps-damaged p false (end - ofLines s p .next) (ofLines s p)

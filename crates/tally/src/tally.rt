@@ -4,18 +4,13 @@ use property::line::Property;
 use property::line::line_at;
 use utf8::signs::UNDERSCORE;
 ghost use mathlib.Core.Path.{_≡_};
-ghost use Prim.Native.Nat.{_-_, _≤_};
-ghost use Rattle.tally.specs.Spans.{asked, besides, other, noted, one, SpanOf};
-ghost use Rattle.tally.specs.Tallies.{Sane};
+ghost use Prim.Native.Nat.{_≤_, _<_};
+ghost use Rattle.tally.specs.Answers.{asked, besides, other, numberOf, one};
+ghost use Rattle.tally.specs.Tallies.{agreesOf, end, freshTally, noted, spoiltOf, stepOf, tallyOf, upTo, withLine, withRange};
+ghost use Rattle.tally.specs.Laws.{Sane};
 
 // One more than the greatest code point.
 pub const END: u32 = 0x110000;
-
-// The answers to the code points of a span: how many are yes, and the first that is not as told, or the span's end.
-pub struct Span {
-    pub yes: u32,
-    pub first: u32,
-}
 
 // What is known of a property below the code point `next`: how many the file names, how many the function does, the first difference (or END),
 // and the first line that cannot be read (or 0).
@@ -67,67 +62,49 @@ fn one_if(yes: bool) -> u32
     0
 }
 
-// The first of two places, where `none` is none.
-fn note(first: u32, none: u32, c: u32, other: bool) -> u32
-    ensures { λ r. ⌜ r ≡ noted first none c other ⌝ }
+// The first difference, if c differs or not.
+fn note(first: u32, c: u32, differs: bool) -> u32
+    ensures { λ r. ⌜ r ≡ noted first c differs ⌝ }
 {
-    if other & (first == none) {
+    if differs & (first == END) {
         return c;
     }
     first
 }
 
-// Asks about each code point of a span of which the file says `told`.
-fn ask_span(p: Property, from: u32, to: u32, told: bool) -> Span
-    requires { ⌜ from ≤ to ⌝ }
-    ensures { λ r. ⌜ SpanOf p from to told r ⌝ }
+// The tally with its next code point, of which the file says `told`.
+fn step(t: Tally, p: Property, told: bool) -> Tally
+    requires { ⌜ (Sane t) × (t .next < end) ⌝ }
+    ensures { λ r. ⌜ r ≡ stepOf p told t ⌝ }
 {
-    let mut yes: u32 = 0;
-    let mut first = to;
-    let mut c = from;
-    while c < to {
-        let answer = asks(p, c);
-        let want = told | is_besides(p, c);
-        first = note(first, to, c, is_other(answer, want));
-        yes += one_if(answer);
-        c += 1;
-    }
-    Span {
-        yes: yes,
-        first: first,
-    }
-}
-
-// The tally with the code points up to `to`, of which the file says `told`.
-fn further(t: Tally, p: Property, to: u32, told: bool) -> Tally
-    requires { ⌜ (Sane t) × (t .next ≤ to) × (to ≤ 0x110000) ⌝ }
-    ensures { λ r. ⌜ (Sane r) × (r .next ≡ to) ⌝ }
-{
-    let from = t.next;
-    let s = ask_span(p, from, to, told);
-    let first = note(t.first, END, s.first, s.first < to);
-    if told {
-        return Tally {
-            next: to,
-            told: t.told + (to - from),
-            yes: t.yes + s.yes,
-            first: first,
-            damaged: t.damaged,
-        };
-    }
+    let c = t.next;
+    let answer = asks(p, c);
+    let want = told | is_besides(p, c);
+    let first = note(t.first, c, is_other(answer, want));
     Tally {
-        next: to,
-        told: t.told,
-        yes: t.yes + s.yes,
+        next: c + 1,
+        told: t.told + one_if(told),
+        yes: t.yes + one_if(answer),
         first: first,
         damaged: t.damaged,
     }
 }
 
+// The tally with the code points up to `to`, of which the file says `told`.
+fn further(t: Tally, p: Property, to: u32, told: bool) -> Tally
+    requires { ⌜ (Sane t) × (to ≤ end) ⌝ }
+    ensures { λ r. ⌜ r ≡ upTo p told to t ⌝ }
+{
+    let mut u = t;
+    while u.next < to {
+        u = step(u, p, told);
+    }
+    u
+}
+
 // The tally with a line that cannot be read.
 fn spoilt(t: Tally, n: usize) -> Tally
-    requires { ⌜ Sane t ⌝ }
-    ensures { λ r. ⌜ Sane r ⌝ }
+    ensures { λ r. ⌜ r ≡ spoiltOf n t ⌝ }
 {
     if t.damaged != 0 {
         return t;
@@ -141,7 +118,9 @@ fn spoilt(t: Tally, n: usize) -> Tally
     }
 }
 
-fn number_of(p: Property) -> u8 {
+fn number_of(p: Property) -> u8
+    ensures { λ r. ⌜ r ≡ numberOf p ⌝ }
+{
     match p {
         Property::Start => 0,
         Property::Continue => 1,
@@ -149,10 +128,27 @@ fn number_of(p: Property) -> u8 {
     }
 }
 
-// The tally with line n. A property's lines ascend.
+// The tally with line n, which names the code points from `first` to `last`. A property's lines ascend.
+fn with_range(t: Tally, p: Property, first: u32, last: u32, n: usize) -> Tally
+    requires { ⌜ Sane t ⌝ }
+    ensures { λ r. ⌜ r ≡ withRange p n first last t ⌝ }
+{
+    if first < t.next {
+        return spoilt(t, n);
+    }
+    if last < first {
+        return spoilt(t, n);
+    }
+    if END <= last {
+        return spoilt(t, n);
+    }
+    further(further(t, p, first, false), p, last + 1, true)
+}
+
+// The tally with line n.
 fn with_line(t: Tally, p: Property, l: Line, n: usize) -> Tally
     requires { ⌜ Sane t ⌝ }
-    ensures { λ r. ⌜ Sane r ⌝ }
+    ensures { λ r. ⌜ r ≡ withLine p n l t ⌝ }
 {
     match l {
         Line::Nothing => t,
@@ -165,23 +161,14 @@ fn with_line(t: Tally, p: Property, l: Line, n: usize) -> Tally
             if number_of(property) != number_of(p) {
                 return t;
             }
-            if first < t.next {
-                return spoilt(t, n);
-            }
-            if last < first {
-                return spoilt(t, n);
-            }
-            if END <= last {
-                return spoilt(t, n);
-            }
-            further(further(t, p, first, false), p, last + 1, true)
+            with_range(t, p, first, last, n)
         }
     }
 }
 
 // The tally of nothing yet.
 fn fresh() -> Tally
-    ensures { λ r. ⌜ Sane r ⌝ }
+    ensures { λ r. ⌜ r ≡ freshTally ⌝ }
 {
     Tally {
         next: 0,
@@ -192,17 +179,9 @@ fn fresh() -> Tally
     }
 }
 
-// The tally with the code points after the last line's.
-fn closed(t: Tally, p: Property) -> Tally
-    requires { ⌜ Sane t ⌝ }
-    ensures { λ r. ⌜ Sane r ⌝ }
-{
-    further(t, p, END, false)
-}
-
-// The tally of a file's lines.
+// The tally of a file's lines; after the last no code point is named.
 pub fn tally_of(s: &[u8], p: Property) -> Tally
-    ensures { λ r. ⌜ Sane r ⌝ }
+    ensures { λ r. ⌜ r ≡ tallyOf (now (s .entry)) p ⌝ }
 {
     let mut t = fresh();
     let mut at = 0;
@@ -214,5 +193,12 @@ pub fn tally_of(s: &[u8], p: Property) -> Tally
         t = with_line(t, p, line, n);
         at = read.next;
     }
-    closed(t, p)
+    further(t, p, END, false)
+}
+
+// The verdict: every line could be read, and no answer differs.
+pub fn agrees(t: Tally) -> bool
+    ensures { λ r. ⌜ r ≡ agreesOf t ⌝ }
+{
+    (t.damaged == 0) & (t.first == END)
 }

@@ -1,4 +1,5 @@
-// Unicode's own files over every code point: what the lines in data/ say, and what the three functions of `unicode` answer.
+// Unicode's own files over every code point: what the lines in data/ say, and what the three functions of `unicode` answer. Then the same over a
+// file of ours in which differences are planted, so that the run shows that it sees them.
 use libc::STDOUT_FILENO;
 use property::line::Property;
 use tally::tally::END;
@@ -14,7 +15,7 @@ fn decimal(n: u64) {
     io::print_decimal(STDOUT_FILENO, n);
 }
 
-// Room for the longer of the two files.
+// Room for the longest of the files.
 fn room() -> [u8; 262144]
     ensures { λ r. ⌜ 262144 ≡ length r ⌝ }
 {
@@ -54,6 +55,48 @@ fn says(yes: bool) {
     text(b", which the file names and the function does not\n");
 }
 
+fn damage(line: usize) {
+    if line != 0 {
+        text(b"first damaged line: ");
+        decimal(line as u64);
+        text(b"\n");
+    }
+}
+
+// One byte of words.
+fn letter(words: &[u8], at: usize) {
+    if at < words.len() {
+        text(&words[at..at + 1]);
+    }
+}
+
+fn digit(d: u32) {
+    letter(b"0123456789ABCDEF", (d % 16) as usize);
+}
+
+// A code point as Unicode writes it: four digits, or as many as it takes.
+fn code_point(c: u32) {
+    text(b"U+");
+    if 0x100000 <= c {
+        digit(c / 0x100000);
+    }
+    if 0x10000 <= c {
+        digit(c / 0x10000);
+    }
+    digit(c / 0x1000);
+    digit(c / 0x100);
+    digit(c / 0x10);
+    digit(c);
+}
+
+fn difference(p: Property, c: u32) {
+    if c != END {
+        text(b"first difference: ");
+        code_point(c);
+        says(tally::tally::asks(p, c));
+    }
+}
+
 // Prints a tally, and answers whether nothing is wrong.
 fn report(t: Tally, p: Property) -> bool {
     before(p);
@@ -61,16 +104,22 @@ fn report(t: Tally, p: Property) -> bool {
     function(p);
     decimal(t.yes as u64);
     tail(p);
-    if t.damaged != 0 {
-        text(b"line ");
-        decimal(t.damaged as u64);
-        text(b" of the file is damaged\n");
+    damage(t.damaged);
+    difference(p, t.first);
+    tally::tally::agrees(t)
+}
+
+// Whether a file is read to its end: a short count may be a read that failed, and one read more answers 0 at the end alone.
+fn is_whole(fd: i32, path: &[u8]) -> bool {
+    let mut more = [0u8; 1];
+    let got = libc::read(fd, &mut more);
+    if got < 0 {
+        os::fail(path);
         return false;
     }
-    if t.first != END {
-        text(b"first difference: U+");
-        io::print_hex(STDOUT_FILENO, t.first as u64, 4);
-        says(tally::tally::asks(p, t.first));
+    if 0 < got {
+        text(path);
+        text(b" is not read to its end\n");
         return false;
     }
     true
@@ -84,7 +133,11 @@ fn compare(path: &[u8], p: Property) -> bool {
     }
     let mut buf = room();
     let n = io::read_full(fd, &mut buf);
+    let whole = is_whole(fd, path);
     libc::close(fd);
+    if !whole {
+        return false;
+    }
     report(tally::tally::tally_of(&buf[..n], p), p)
 }
 
@@ -98,4 +151,8 @@ fn main() {
     if start & more & white {
         text(b"no difference\n");
     }
+    text(b"planted:\n");
+    compare(b"Planted.txt", Property::Start);
+    compare(b"Planted.txt", Property::Continue);
+    compare(b"Planted.txt", Property::White);
 }

@@ -1,49 +1,36 @@
-use native.Mathlib.Omega.{arith}
 use borrow.Author.Needs.{needs}
+use native.Mathlib.Omega.{arith}
+use mathlib.Core.Path.{_≡_, _∙_}
+use borrow.Author.Tests.{eq-eqb, ne-eqb}
+use Rattle.property.specs.declared.line.Line.the-variants.{Damaged}
+use Rattle.property.specs.Hex.{hexOf}
+use Rattle.property.specs.Lines.{firstOf}
+use Rattle.property.specs.Laws.{line-none, line-remark, line-points}
 use Rattle.property.proofs.line.parse.Statement.{statement}
 use Rattle.property.proofs.line.parse.Tie as tie
 
 returns : tie.Need-returns
-returns c = search needs
+returns c = line-none _ (c .if1 .taken)
 
 shared-slice-read-if2 : tie.Need-shared-slice-read-if2
 shared-slice-read-if2 c = search needs
 
 returns-2 : tie.Need-returns-2
-returns-2 c = search needs
+returns-2 c = line-remark (c .before .before .before .before .args .s .now) (omega arith) (c .if2 .taken)
 
 hex-at-requires : tie.Need-hex-at-requires
 hex-at-requires c κs = search needs
 
 returns-3 : tie.Need-returns-3
-returns-3 c = search needs
+unfolding firstOf
+returns-3 c = let s = c .before .before .before .before .before .before .before .args .s .now in let e : Damaged ≡ firstOf (hexOf s) s = rw (← (c .before .before .hex-at .ensures), eq-eqb _ _ (c .if3 .taken)) in e ∙ line-points s (omega arith) (c .before .before .before .if2 .left)
 
-slice-aggregate-stands : tie.Need-slice-aggregate-stands
-slice-aggregate-stands c = search needs
-
-stands-requires : tie.Need-stands-requires
-stands-requires c κs = search needs
-
-add-from : tie.Need-add-from
-add-from c = search needs
-
-hex-at-requires-2 : tie.Need-hex-at-requires-2
-hex-at-requires-2 c κs = omega (arith, c .before .stands .ensures (c .if4 .taken))
+range-requires : tie.Need-range-requires
+range-requires c κs = search needs
 
 returns-4 : tie.Need-returns-4
-returns-4 c = search needs
-
-named-requires : tie.Need-named-requires
-named-requires c κs = search needs
-
-returns-5 : tie.Need-returns-5
-returns-5 c = search needs
-
-named-requires-2 : tie.Need-named-requires-2
-named-requires-2 c κs = search needs
-
-returns-6 : tie.Need-returns-6
-returns-6 c = search needs
+unfolding firstOf
+returns-4 c = let s = c .before .before .before .before .before .before .before .before .args .s .now in let e : c .range .result ≡ firstOf (hexOf s) s = rw (← (c .before .before .before .hex-at .ensures), ne-eqb _ _ (c .before .if3 .left)) (c .range .ensures) in e ∙ line-points s (omega arith) (c .before .before .before .before .if2 .left)
 
 pub parse-spec : {M : Type 1} → statement M
 parse-spec =
@@ -54,12 +41,5 @@ parse-spec =
     returns-2
     hex-at-requires
     returns-3
-    slice-aggregate-stands
-    stands-requires
-    add-from
-    hex-at-requires-2
-    returns-4
-    named-requires
-    returns-5
-    named-requires-2
-    returns-6)
+    range-requires
+    returns-4)

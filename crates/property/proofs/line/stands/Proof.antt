@@ -1,37 +1,35 @@
-use mathlib.Core.Path.{_≡_}
 use native.Mathlib.Omega.{arith}
-use borrow.Author.Needs.{needs}
-use Prim.Native.Nat.{ℕ, _≤_, _-_}
-use lib.ListN.{length}
+use Prim.Native.Nat.{_-_}
+use mathlib.Core.Path.{_≡_, refl, _∙_}
+use lib.ListN.{length, drop}
+use Rattle.property.specs.Lines.{startsWith}
+use Rattle.property.specs.Laws.{starts-on, starts-other, starts-short, starts-end}
 use Rattle.property.proofs.line.stands.Statement.{statement}
 use Rattle.property.proofs.line.stands.Tie as tie
 
 abbrev Inv-loop : tie.InvT-loop
-Inv-loop s at word i₀ i = i ≤ length word
+Inv-loop s from word at₀ i₀ at i = startsWith (drop i word) (drop at s) ≡ startsWith word (drop from s)
 
 abbrev μ-loop : tie.MeasureT-loop
-μ-loop s at word i₀ i = length word - i
-
-sub-if1 : tie.Need-sub-if1 Inv-loop μ-loop
-sub-if1 c = omega arith
-
-returns : tie.Need-returns Inv-loop μ-loop
-returns c = λ t. let z : _≡_ {A = ℕ} 0 1 = cc in absurd (omega arith)
+μ-loop s from word at₀ i₀ at i = length word - i
 
 loop-holds : tie.Need-loop-holds Inv-loop μ-loop
-loop-holds c = omega arith
+loop-holds c = refl
 
-add-if2 : tie.Need-add-if2 Inv-loop μ-loop
-add-if2 c = omega arith
+returns : tie.Need-returns Inv-loop μ-loop
+returns c = let l = c .before .before .loop in let a = c .before .before .before .args in starts-short (a .word .now) (l .i) (a .s .now) (l .at) (omega arith) (omega arith) ∙ l .inv
 
 shared-slice-read-if2 : tie.Need-shared-slice-read-if2 Inv-loop μ-loop
 shared-slice-read-if2 c = omega arith
 
 shared-slice-read-if2-2 : tie.Need-shared-slice-read-if2-2 Inv-loop μ-loop
-shared-slice-read-if2-2 c = search needs
+shared-slice-read-if2-2 c = omega arith
 
 returns-2 : tie.Need-returns-2 Inv-loop μ-loop
-returns-2 c = λ t. let z : _≡_ {A = ℕ} 0 1 = cc in absurd (omega arith)
+returns-2 c = let l = c .before .before .before .before .before .loop in let a = c .before .before .before .before .before .before .args in starts-other (a .word .now) (l .i) (a .s .now) (l .at) (omega arith) (omega arith) (c .if2 .taken) ∙ l .inv
+
+add-at : tie.Need-add-at Inv-loop μ-loop
+add-at c = omega arith
 
 add-i : tie.Need-add-i Inv-loop μ-loop
 add-i c = omega arith
@@ -40,10 +38,10 @@ loop-less : tie.Need-loop-less Inv-loop μ-loop
 loop-less c = omega arith
 
 loop-again : tie.Need-loop-again Inv-loop μ-loop
-loop-again c = omega arith
+loop-again c = let l = c .before .before .before .before .before .loop in let a = c .before .before .before .before .before .before .args in starts-on (a .word .now) (l .i) (a .s .now) (l .at) (omega arith) (omega arith) (c .if2 .left) ∙ l .inv
 
 returns-3 : tie.Need-returns-3 Inv-loop μ-loop
-returns-3 c = λ t. omega arith
+returns-3 c = let l = c .before .loop in let a = c .before .before .args in starts-end (a .word .now) (l .i) (a .s .now) (l .at) (omega arith) ∙ l .inv
 
 pub stands-spec : {M : Type 1} → statement M
 stands-spec =
@@ -51,13 +49,12 @@ stands-spec =
     (tie.spec
     Inv-loop
     μ-loop
-    sub-if1
-    returns
     loop-holds
-    add-if2
+    returns
     shared-slice-read-if2
     shared-slice-read-if2-2
     returns-2
+    add-at
     add-i
     loop-less
     loop-again

@@ -1,34 +1,38 @@
 use native.Mathlib.Omega.{arith}
-use Rattle.tally.specs.Laws.{span-few}
-use borrow.Author.Needs.{needs}
+use Prim.Native.Nat.{_-_}
+use mathlib.Core.Path.{_≡_, refl, ap, _∙_}
+use Rattle.tally.specs.declared.tally.Tally.{Tally}
+use Rattle.tally.specs.Tallies.{stepOf, upTo}
+use Rattle.tally.specs.Laws.{Sane, sane-step, up-on, up-end}
 use Rattle.tally.proofs.tally.further.Statement.{statement}
 use Rattle.tally.proofs.tally.further.Tie as tie
 
-ask-span-requires : tie.Need-ask-span-requires
-ask-span-requires c κs = search needs
+abbrev Inv-loop : tie.InvT-loop
+Inv-loop p to told u₀ u = Sane u × (upTo p told to u ≡ upTo p told to u₀)
 
-note-requires : tie.Need-note-requires
-note-requires c κs = search needs
+abbrev μ-loop : tie.MeasureT-loop
+μ-loop p to told u₀ u = to - u .next
 
-sub-t9 : tie.Need-sub-t9
-sub-t9 c = search needs
+loop-holds : tie.Need-loop-holds Inv-loop μ-loop
+loop-holds c = (c .pre .0, refl)
 
-add-t10 : tie.Need-add-t10
-add-t10 c = search needs
+step-requires : tie.Need-step-requires Inv-loop μ-loop
+step-requires c κs = (c .before .before .loop .inv .0, omega arith)
 
-add-t11 : tie.Need-add-t11
-add-t11 c = omega (arith, span-few _ _ _ _ _ (c .before .before .before .before .before .before .ask-span .ensures))
+loop-less : tie.Need-loop-less Inv-loop μ-loop
+unfolding stepOf
+loop-less c = omega (arith, ap (λ (t : Tally). t .next) (c .step .ensures))
 
-returns : tie.Need-returns
-returns c = omega (arith, span-few _ _ _ _ _ (c .before .before .before .before .before .before .ask-span .ensures))
+loop-again : tie.Need-loop-again Inv-loop μ-loop
+loop-again c =
+    let a = c .before .before .before .before .args in
+    let l = c .before .before .before .loop in
+    let e = c .step .ensures in
+    (rw e (sane-step (a .p) (a .told) (l .u) (omega arith) (l .inv .0)), ap (λ (t : Tally). upTo (a .p) (a .told) (a .to) t) e ∙ up-on (a .p) (a .told) (a .to) (l .u) (omega arith) ∙ l .inv .1)
 
-add-t12 : tie.Need-add-t12
-add-t12 c = omega (arith, span-few _ _ _ _ _ (c .before .before .before .before .before .ask-span .ensures))
-
-returns-2 : tie.Need-returns-2
-returns-2 c = omega (arith, span-few _ _ _ _ _ (c .before .before .before .before .before .ask-span .ensures))
+returns : tie.Need-returns Inv-loop μ-loop
+returns c = let a = c .before .before .before .args in let l = c .before .before .loop in up-end (a .p) (a .told) (a .to) (l .u) (omega arith) ∙ l .inv .1
 
 pub further-spec : {M : Type 1} → statement M
 further-spec =
-    tie.close
-    (tie.spec ask-span-requires note-requires sub-t9 add-t10 add-t11 returns add-t12 returns-2)
+    tie.close (tie.spec Inv-loop μ-loop loop-holds step-requires loop-less loop-again returns)

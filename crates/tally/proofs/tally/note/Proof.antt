@@ -1,4 +1,4 @@
-use Rattle.tally.specs.Spans.{noted}
+use Rattle.tally.specs.Tallies.{noted}
 use Rattle.tally.proofs.tally.note.Statement.{statement}
 use Rattle.tally.proofs.tally.note.Tie as tie
 
