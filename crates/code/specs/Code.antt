@@ -29,28 +29,28 @@ slashSkip o (c ∷ cs) at =
 
 -- ODDITY. 01: "6 at the opening quote exactly if the text ends before this is done or straight after it". So a quoted literal is refused where
 -- the text ends straight after it: the old reading does so; a later reading may choose otherwise.
-unfoldable pub quoteEnd : ℕ → List ℕ → ℕ → ℕ → Skip
-quoteEnd o [] at m = Lost (refusal UnterminatedCharacterLiteral o) at m
-quoteEnd o (c ∷ cs) at m = Past at m
+unfoldable pub quoteEnd : ℕ → List ℕ → ℕ → Skip
+quoteEnd o [] at = Lost (refusal UnterminatedCharacterLiteral o) at 0
+quoteEnd o (c ∷ cs) at = Past at 0
 
 -- after an opening quote at o and one character. 01: "any one character (`'` too) and, if there, a `'` directly after it"
 unfoldable pub oneSkip : ℕ → List ℕ → ℕ → Skip
-oneSkip o [] at = quoteEnd o [] at 1
-oneSkip o (c ∷ cs) at = cond (eqb c 'quote) (quoteEnd o cs (at + widthOf c) 2) (Past at 1)
+oneSkip o [] at = quoteEnd o [] at
+oneSkip o (c ∷ cs) at = cond (eqb c 'quote) (skipMore 1 (quoteEnd o cs (at + widthOf c))) (Past at 0)
 
 -- after an opening quote at o and a backslash. 01: "either a backslash, the character after it and all through the next `'` are passed"
 abbrev pub escPast : ℕ → List ℕ → Found → Skip
-escPast o cs (At p m) = quoteEnd o (drop (m + 1) cs) (p + 1) (m + 3)
-escPast o cs (Nothing p m) = Lost (refusal UnterminatedCharacterLiteral o) p (m + 2)
+escPast o cs (At p m) = skipMore (m + 1) (quoteEnd o (drop (m + 1) cs) (p + 1))
+escPast o cs (Nothing p m) = Lost (refusal UnterminatedCharacterLiteral o) p m
 
 unfoldable pub escSkip : ℕ → List ℕ → ℕ → Skip
-escSkip o [] at = Lost (refusal UnterminatedCharacterLiteral o) at 1
-escSkip o (c ∷ cs) at = escPast o cs (seek Quote cs (at + widthOf c))
+escSkip o [] at = Lost (refusal UnterminatedCharacterLiteral o) at 0
+escSkip o (c ∷ cs) at = skipMore 1 (escPast o cs (seek Quote cs (at + widthOf c)))
 
 -- after an opening quote at o
 unfoldable pub quoteSkip : ℕ → List ℕ → ℕ → Skip
 quoteSkip o [] at = Lost (refusal UnterminatedCharacterLiteral o) at 0
-quoteSkip o (c ∷ cs) at = cond (eqb c 'backslash) (escSkip o cs (at + widthOf c)) (oneSkip o cs (at + widthOf c))
+quoteSkip o (c ∷ cs) at = cond (eqb c 'backslash) (skipMore 1 (escSkip o cs (at + widthOf c))) (skipMore 1 (oneSkip o cs (at + widthOf c)))
 
 -- ODDITY. 01: "That regex is read with the place of the first hash as its start, so it needs one closing hash fewer; its 5 carries that place".
 -- The letter stands at r: the old reading does so; a later reading may choose otherwise.

@@ -1,23 +1,26 @@
 -- What each cover passes leads to the place that it answers, and so does the code; a turn opens at most one bracket more.
-use Prim.Native.Nat.{_+_, _≤_, suc, ℕ}
+use Prim.Native.Nat.{_+_, _≤_, ℕ}
 use native.Mathlib.Omega.{arith}
-use mathlib.Core.Bool.{cond}
+use mathlib.Core.Bool.{Bool, cond, false, true}
 use mathlib.Core.List.{List, [], _∷_}
-use mathlib.Core.Path.{_≡_, refl}
+use mathlib.Core.Path.{_∙_, _≡_, ap, refl, sym}
 use lib.Dec.{eqb}
 use lib.ListN.{drop}
 use Rattle.utf8.specs.Chars.{'#, '*, '/, 'quote}
 use Rattle.utf8.specs.Laws.{Ended, Seen}
 use Rattle.utf8.specs.Utf8.{widthOf}
+use Rattle.record.specs.Records.{refusal}
+use Rattle.record.specs.declared.Code.the-variants.{UnterminatedCharacterLiteral}
 use Rattle.record.specs.declared.Refusal.{Refusal}
-use Rattle.scan.specs.Far.{Far, far-one, one-far}
+use Rattle.scan.specs.Far.{Far}
 use Rattle.scan.specs.Passes.{Balance, From, Good, Sound, balances, block-sound, from-lost, from-past, from-test, goods, quote-past, regex-sound, seek-at, seek-none, sound-here, sound-lost, sound-more, sound-next, sound-one, sound-test, upto-sound, walk-sound}
 use Rattle.scan.specs.Readers.{regexEnd}
 use Rattle.scan.specs.Seek.{blockComment, lineSkip, seek, skipMore}
 use Rattle.scan.specs.Until.{left}
 use Rattle.scan.specs.declared.Found.{Found}
 use Rattle.scan.specs.declared.Found.the-variants.{At, Nothing}
-use Rattle.scan.specs.declared.Skip.the-variants.{Past}
+use Rattle.scan.specs.declared.Skip.{Skip}
+use Rattle.scan.specs.declared.Skip.the-variants.{Lost, Past}
 use Rattle.scan.specs.declared.Sought.the-variants.{Hashes, Newline, Quote, Word}
 use Rattle.scan.specs.declared.Turn.the-variants.{Fail, Pass}
 use Rattle.code.specs.Code.{bodySkip, closingHashes, codeEnd, codeLast, codeTurn, escPast, escSkip, hashPast, hashSkip, oneSkip, quoteEnd, quoteSkip, rSkip, slashSkip}
@@ -31,39 +34,79 @@ slash-sound o (c ∷ cs) at =
     search (sound-test, sound-here)
 
 -- quotes
-end-sound : (o : ℕ) (cs rest : List ℕ) (at p m : ℕ) → Far cs at m p → Sound cs at (quoteEnd o rest p m)
+end-sound : (o : ℕ) (cs : List ℕ) (at : ℕ) → Sound cs at (quoteEnd o cs at)
 unfolding quoteEnd
-end-sound o cs [] at p m f = record { is = f }
-end-sound o cs (x ∷ rest) at p m f = record { is = f }
+end-sound o [] at = sound-lost _ [] at
+end-sound o (x ∷ cs) at = sound-here (x ∷ cs) at
 
-one-sound : (o c : ℕ) (cs : List ℕ) (at : ℕ) → Sound (c ∷ cs) at (oneSkip o cs (at + widthOf c))
+one-sound : (o : ℕ) (cs : List ℕ) (at : ℕ) → Sound cs at (oneSkip o cs at)
 unfolding oneSkip
-one-sound o c [] at = end-sound o (c ∷ []) [] at (at + widthOf c) 1 (one-far c [] at)
-one-sound o c (d ∷ cs) at =
-    let f : Far (c ∷ d ∷ cs) at 2 (at + widthOf c + widthOf d) = far-one c (d ∷ cs) at 1 _ (one-far d cs (at + widthOf c)) in
-    let g : Sound (c ∷ d ∷ cs) at (Past (at + widthOf c) 1) = record { is = one-far c (d ∷ cs) at } in
-    sound-test (c ∷ d ∷ cs) at (eqb d 'quote) (quoteEnd o cs (at + widthOf c + widthOf d) 2) (Past (at + widthOf c) 1)
-    (end-sound o (c ∷ d ∷ cs) cs at (at + widthOf c + widthOf d) 2 f) g
+one-sound o [] at = end-sound o [] at
+one-sound o (c ∷ cs) at =
+    let u = sound-one c cs at _ (end-sound o cs (at + widthOf c)) in
+    search (sound-test, sound-here)
 
-esc-sound : (o c : ℕ) (cs : List ℕ) (at : ℕ) → Sound (c ∷ cs) at (escSkip o cs (at + widthOf c))
+esc-sound : (o : ℕ) (cs : List ℕ) (at : ℕ) → Sound cs at (escSkip o cs at)
 unfolding escSkip
-esc-sound o c [] at = record { is = one-far c [] at }
-esc-sound o c (d ∷ cs) at = go (seek Quote cs (at + widthOf c + widthOf d)) refl
+esc-sound o [] at = sound-lost _ [] at
+esc-sound o (c ∷ cs) at = sound-one c cs at _ (go (seek Quote cs (at + widthOf c)) refl)
   where
-    go : (f : Found) → seek Quote cs (at + widthOf c + widthOf d) ≡ f → Sound (c ∷ d ∷ cs) at (escPast o cs f)
-    go (At p m) e =
-        let f = far-one c (d ∷ cs) at (suc (m + 1)) (p + 1) (far-one d cs (at + widthOf c) (m + 1) (p + 1) (quote-past cs (at + widthOf c + widthOf d) p m e)) in
-        let q : suc (suc (m + 1)) ≡ m + 3 = omega arith in
-        end-sound o (c ∷ d ∷ cs) (drop (m + 1) cs) at (p + 1) (m + 3) (rw q at f)
-    go (Nothing p m) e =
-        let f = far-one c (d ∷ cs) at (suc m) p (far-one d cs (at + widthOf c) m p (seek-none cs (at + widthOf c + widthOf d) p m Quote e)) in
-        let q : suc (suc m) ≡ m + 2 = omega arith in
-        record { is = rw q at f }
+    go : (f : Found) → seek Quote cs (at + widthOf c) ≡ f → Sound cs (at + widthOf c) (escPast o cs f)
+    go (At p m) e = sound-more (m + 1) cs (at + widthOf c) (p + 1) _ (quote-past cs (at + widthOf c) p m e) (end-sound o (drop (m + 1) cs) (p + 1))
+    go (Nothing p m) e = record { is = seek-none cs (at + widthOf c) p m Quote e }
 
 quote-sound : (o : ℕ) (cs : List ℕ) (at : ℕ) → Sound cs at (quoteSkip o cs at)
 unfolding quoteSkip
 quote-sound o [] at = sound-lost _ [] at
-quote-sound o (c ∷ cs) at = search (sound-test, esc-sound, one-sound)
+quote-sound o (c ∷ cs) at =
+    let u = sound-one c cs at _ (esc-sound o cs (at + widthOf c)) in
+    let v = sound-one c cs at _ (one-sound o cs (at + widthOf c)) in
+    search sound-test
+
+-- the same with what is passed before it, as the code counts
+more-none : (p m : ℕ) → Past p m ≡ skipMore m (Past p 0)
+more-none p m = let e : m + 0 ≡ m = omega arith in rw e
+
+lost-none : (r : Refusal) (p m : ℕ) → Lost r p m ≡ skipMore m (Lost r p 0)
+lost-none r p m = let e : m + 0 ≡ m = omega arith in rw e
+
+more-more : (n m : ℕ) (x : Skip) → skipMore n (skipMore m x) ≡ skipMore (n + m) x
+more-more n m (Past p k) = let e : n + (m + k) ≡ n + m + k = omega arith in rw e
+more-more n m (Lost r p k) = let e : n + (m + k) ≡ n + m + k = omega arith in rw e
+
+more-test : (n : ℕ) (t : Bool) (x y : Skip) → skipMore n (cond t x y) ≡ cond t (skipMore n x) (skipMore n y)
+more-test n true x y = refl
+more-test n false x y = refl
+
+pub end-passed : (o c : ℕ) (cs : List ℕ) (at m : ℕ) → skipMore m (quoteEnd o (c ∷ cs) at) ≡ Past at m
+unfolding quoteEnd
+end-passed o c cs at m = sym (more-none at m)
+
+pub end-lost : (o at m : ℕ) → skipMore m (quoteEnd o [] at) ≡ Lost (refusal UnterminatedCharacterLiteral o) at m
+unfolding quoteEnd
+end-lost o at m = sym (lost-none _ at m)
+
+pub one-passed : (o c : ℕ) (cs : List ℕ) (at : ℕ) → skipMore 1 (oneSkip o (c ∷ cs) at) ≡ cond (eqb c 'quote) (skipMore 2 (quoteEnd o cs (at + widthOf c))) (Past at 1)
+unfolding oneSkip
+one-passed o c cs at =
+    more-test 1 (eqb c 'quote) (skipMore 1 (quoteEnd o cs (at + widthOf c))) (Past at 0)
+    ∙ ap (λ (x : Skip). cond (eqb c 'quote) x (Past at 1)) (more-more 1 1 (quoteEnd o cs (at + widthOf c)))
+
+-- with the backslash and the character after it
+abbrev pub escPassed : ℕ → List ℕ → Found → Skip
+escPassed o cs (At p m) = skipMore (m + 3) (quoteEnd o (drop (m + 1) cs) (p + 1))
+escPassed o cs (Nothing p m) = Lost (refusal UnterminatedCharacterLiteral o) p (m + 2)
+
+pub esc-passed : (o c : ℕ) (cs : List ℕ) (at : ℕ) → skipMore 1 (escSkip o (c ∷ cs) at) ≡ escPassed o cs (seek Quote cs (at + widthOf c))
+unfolding escSkip
+esc-passed o c cs at = go (seek Quote cs (at + widthOf c))
+  where
+    go : (f : Found) → skipMore 1 (skipMore 1 (escPast o cs f)) ≡ escPassed o cs f
+    go (At p m) =
+        let e : 2 + (m + 1) ≡ m + 3 = omega arith in
+        let x = quoteEnd o (drop (m + 1) cs) (p + 1) in
+        more-more 1 1 (skipMore (m + 1) x) ∙ more-more 2 (m + 1) x ∙ ap (λ (n : ℕ). skipMore n x) e
+    go (Nothing p m) = let e : 1 + (1 + m) ≡ m + 2 = omega arith in rw e
 
 -- hashes in code
 pub body-sound : (o m : ℕ) (cs : List ℕ) (p : ℕ) → Sound cs p (bodySkip o m cs p)

@@ -26,38 +26,38 @@ module _ (o : ℕ) where
       let w = near-past o at 0 h in
       search near-test
 
-  end-near : (cs : List ℕ) (at m : ℕ) → o ≤ at → Near o (quoteEnd o cs at m)
+  end-near : (cs : List ℕ) (at : ℕ) → o ≤ at → Near o (quoteEnd o cs at)
   unfolding quoteEnd
-  end-near [] at m h = near-lost o _ o at m (omega arith) h
-  end-near (c ∷ cs) at m h = near-past o at m h
+  end-near [] at h = near-lost o _ o at 0 (omega arith) h
+  end-near (c ∷ cs) at h = near-past o at 0 h
 
   one-near : (cs : List ℕ) (at : ℕ) → o ≤ at → Near o (oneSkip o cs at)
   unfolding oneSkip
-  one-near [] at h = end-near [] at 1 h
+  one-near [] at h = end-near [] at h
   one-near (c ∷ cs) at h =
-      let u = end-near cs (at + widthOf c) 2 (omega arith) in
-      let w = near-past o at 1 h in
+      let u = near-more o 1 _ (end-near cs (at + widthOf c) (omega arith)) in
+      let w = near-past o at 0 h in
       search near-test
 
   esc-near : (cs : List ℕ) (at : ℕ) → o ≤ at → Near o (escSkip o cs at)
   unfolding escSkip
-  esc-near [] at h = near-lost o _ o at 1 (omega arith) h
-  esc-near (c ∷ cs) at h = go (seek Quote cs (at + widthOf c)) refl
+  esc-near [] at h = near-lost o _ o at 0 (omega arith) h
+  esc-near (c ∷ cs) at h = near-more o 1 _ (go (seek Quote cs (at + widthOf c)) refl)
     where
       go : (f : Found) → seek Quote cs (at + widthOf c) ≡ f → Near o (escPast o cs f)
       go (At p m) e =
           let g = far-on cs (at + widthOf c) (m + 1) (p + 1) (quote-past cs (at + widthOf c) p m e) in
-          end-near (drop (m + 1) cs) (p + 1) (m + 3) (omega arith)
+          near-more o (m + 1) _ (end-near (drop (m + 1) cs) (p + 1) (omega arith))
       go (Nothing p m) e =
           let g = far-on cs (at + widthOf c) m p (seek-none cs (at + widthOf c) p m Quote e) in
-          near-lost o _ o p (m + 2) (omega arith) (omega arith)
+          near-lost o _ o p m (omega arith) (omega arith)
 
   quote-near : (cs : List ℕ) (at : ℕ) → o ≤ at → Near o (quoteSkip o cs at)
   unfolding quoteSkip
   quote-near [] at h = near-lost o _ o at 0 (omega arith) h
   quote-near (c ∷ cs) at h =
-      let u = esc-near cs (at + widthOf c) (omega arith) in
-      let v = one-near cs (at + widthOf c) (omega arith) in
+      let u = near-more o 1 _ (esc-near cs (at + widthOf c) (omega arith)) in
+      let v = near-more o 1 _ (one-near cs (at + widthOf c) (omega arith)) in
       search near-test
 
   body-near : (m : ℕ) (cs : List ℕ) (p : ℕ) → o ≤ p → Near o (bodySkip o m cs p)

@@ -63,7 +63,7 @@ fn slash_skip(s: &[u8], at: usize, o: usize) -> Skip
 // ODDITY: after a closing quote the text must go on (the Rust's `bump` answers nothing at the end of the text). The old reading
 // does so; a later reading may choose otherwise.
 fn quote_end(s: &[u8], at: usize, o: usize, m: usize) -> Skip
-    ensures { λ r. ⌜ r ≡ quoteEnd o (chars (drop at (now (s .entry)))) at m ⌝ }
+    ensures { λ r. ⌜ r ≡ skipMore m (quoteEnd o (chars (drop at (now (s .entry)))) at) ⌝ }
 {
     match utf8::char_at(s, at) {
         Sight::Char { code: _, width: _ } => Skip::Past(at, m),
@@ -73,7 +73,7 @@ fn quote_end(s: &[u8], at: usize, o: usize, m: usize) -> Skip
 
 // After a quote at o and one character: a quote, if there is one.
 fn one_skip(s: &[u8], at: usize, o: usize) -> Skip
-    ensures { λ r. ⌜ r ≡ oneSkip o (chars (drop at (now (s .entry)))) at ⌝ }
+    ensures { λ r. ⌜ r ≡ skipMore 1 (oneSkip o (chars (drop at (now (s .entry)))) at) ⌝ }
 {
     match utf8::char_at(s, at) {
         Sight::Char { code, width } => {
@@ -88,7 +88,7 @@ fn one_skip(s: &[u8], at: usize, o: usize) -> Skip
 
 // After a quote at o and a backslash: a character, and all through the next quote.
 fn esc_skip(s: &[u8], at: usize, o: usize) -> Skip
-    ensures { λ r. ⌜ r ≡ escSkip o (chars (drop at (now (s .entry)))) at ⌝ }
+    ensures { λ r. ⌜ r ≡ skipMore 1 (escSkip o (chars (drop at (now (s .entry)))) at) ⌝ }
 {
     match utf8::char_at(s, at) {
         Sight::Char { code: _, width } => match scan::take_until(s, at + width, Sought::Quote) {

@@ -1,7 +1,7 @@
 -- 01's section 'Strings', the answer: where the expansion stands, what the buffer holds, and the reader's part.
 use Prim.Native.Nat.{ℕ, _+_, _-_}
 use mathlib.Core.Bool.{Bool, cond, _&&_}
-use mathlib.Core.List.{List, [], _∷_, _++_}
+use mathlib.Core.List.{List, [], _++_}
 use lib.Dec.{ltb, leb}
 use lib.ListN.{length, take, drop}
 use Rattle.utf8.specs.Chars.{'backslash}
@@ -9,7 +9,6 @@ use Rattle.record.specs.declared.Refusal.{Refusal}
 use Rattle.record.specs.declared.Code.the-variants.{NoRoom, BadRecord}
 use Rattle.record.specs.declared.Checked.{Checked}
 use Rattle.record.specs.declared.Checked.the-variants.{Passed, Refused as Failed}
-use Rattle.record.specs.Numbers.{codeNumber}
 use Rattle.record.specs.Records.{refusal}
 use Rattle.record.specs.Checks.{checks}
 use Rattle.escapes.specs.declared.Held.{Held}
@@ -59,16 +58,6 @@ checked (Failed r) o d = refuse r d
 -- the expansion of a text s, to a place in a buffer d
 unfoldable pub applied : List ℕ → ℕ → List ℕ → ℕ → Done
 applied s idx0 d place = checked (checks s idx0) (expanded s idx0 d place) d
-
--- the answer in numbers: a refusal's number and its place; or 0, which slice holds the part (0 the text, 1 the buffer), its
--- start and its end. 01: "When an answer is an enum, a definition gives this paper's number and values for each enum case."
-abbrev pub heldNumber : Held → ℕ
-heldNumber Text = 0
-heldNumber Buffer = 1
-
-abbrev pub values : Expanded → List ℕ
-values (APart p) = 0 ∷ heldNumber (p .held) ∷ p .start ∷ p .end ∷ []
-values (Refused r) = codeNumber (r .code) ∷ r .place ∷ []
 
 -- 01: "So the reader's answer is a part of the text or a part of the buffer, empty for a range outside, where its check answers 20."
 abbrev pub side : Held → List ℕ → List ℕ → List ℕ

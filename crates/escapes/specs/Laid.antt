@@ -16,12 +16,11 @@ use Rattle.record.specs.declared.Checked.{Checked}
 use Rattle.record.specs.declared.Checked.the-variants.{Passed, Refused as Failed}
 use Rattle.record.specs.Records.{refusal}
 use Rattle.record.specs.Checks.{checks}
-use Rattle.escapes.specs.declared.Held.{Held}
-use Rattle.escapes.specs.declared.Held.the-variants.{Text, Buffer}
+use Rattle.escapes.specs.declared.Held.the-variants.{Text}
 use Rattle.escapes.specs.declared.Part.{Part}
 use Rattle.escapes.specs.declared.Expanded.the-variants.{Part as APart}
 use Rattle.escapes.specs.Escapes.{Outcome, gives, refused, expand, hasByte}
-use Rattle.escapes.specs.Answers.{heldNumber, part, Done, refuse, write, fit, expanded, checked, applied, cut, rangeCheck}
+use Rattle.escapes.specs.Answers.{part, Done, refuse, write, fit, expanded, checked, applied, cut, rangeCheck}
 
 -- What holds of a refusal, of an answer in the text and of one in the buffer holds of every answer.
 module _ (s : List ℕ) (idx0 : ℕ) (d : List ℕ) (place : ℕ) (P : Done → Type 0) (no : (r : Refusal) → P (refuse r d))
@@ -89,10 +88,3 @@ module _ (s : List ℕ) where
   pub all-check : rangeCheck (length s) 0 (length s) ≡ Passed
   unfolding rangeCheck
   all-check = rw (le-leb 0 (length s) (omega arith), le-leb (length s) (length s) (omega arith))
-
--- the numbers of the two slices differ
-pub same-held : (a b : Held) → heldNumber a ≡ heldNumber b → a ≡ b
-same-held Text Text e = refl
-same-held Buffer Buffer e = refl
-same-held Text Buffer e = absurd (omega arith)
-same-held Buffer Text e = absurd (omega arith)

@@ -14,14 +14,12 @@ use Rattle.utf8.specs.Laws.{Whole, valid-whole}
 use Rattle.utf8.specs.Chars.{'backslash}
 use Rattle.record.specs.declared.Refusal.{Refusal}
 use Rattle.record.specs.declared.Checked.the-variants.{Passed}
-use Rattle.record.specs.Numbers.{codeNumber, codeOf, code-again}
 use Rattle.escapes.specs.declared.Part.{Part}
-use Rattle.escapes.specs.declared.Expanded.{Expanded}
 use Rattle.escapes.specs.declared.Expanded.the-variants.{Part as APart, Refused}
 use Rattle.escapes.specs.Escapes.{gives, expand, hasByte}
-use Rattle.escapes.specs.Answers.{values, applied, partOf, partCheck}
+use Rattle.escapes.specs.Answers.{applied, partOf, partCheck}
 use Rattle.escapes.specs.Laws.{plain-from, short-from}
-use Rattle.escapes.specs.Laid.{by-answer, part-is, laid-after, laid-length, laid-part, laid-check, all-part, all-check, same-held}
+use Rattle.escapes.specs.Laid.{by-answer, part-is, laid-after, laid-length, laid-part, laid-check, all-part, all-check}
 use Rattle.escapes.specs.Formed.{formed}
 use Rattle.escapes.specs.Characters.{spell, inCharacters}
 use Rattle.escapes.specs.Spelled.{agree, found}
@@ -82,18 +80,3 @@ module _ (s : List ℕ) (idx0 : ℕ) (d : List ℕ) (place : ℕ) where
       (λ r p e. let z : _≡_ {A = ℕ} 0 1 = cc in absurd (omega arith))
       (λ h p e. rw (← (part-is _ p e)) (unescaped s idx0 h ∙ ap gives (sym (all-part s)), all-check s))
       (λ l h m p e. rw (← (part-is _ p e)) (h ∙ ap gives (sym (laid-part place l d m)), laid-check place l d m))
-
--- Two answers with the same numbers are the same.
-pub same-values : (a b : Expanded) → values a ≡ values b → a ≡ b
-same-values (APart p) (APart q) e =
-    let h : p .held ≡ q .held = same-held (p .held) (q .held) cc in
-    let i : p .start ≡ q .start = cc in
-    let j : p .end ≡ q .end = cc in
-    ap APart (rw (h, i, j))
-same-values (Refused x) (Refused y) e =
-    let n : codeNumber (x .code) ≡ codeNumber (y .code) = cc in
-    let h : x .code ≡ y .code = sym (code-again (x .code)) ∙ ap codeOf n ∙ code-again (y .code) in
-    let i : x .place ≡ y .place = cc in
-    ap Refused (rw (h, i))
-same-values (APart p) (Refused y) e = cc
-same-values (Refused x) (APart q) e = cc

@@ -23,6 +23,7 @@ use Rattle.ltk.specs.declared.Found.the-variants as Found
 use Rattle.ltk.specs.declared.Answer.the-variants.{Done, Refused}
 use Rattle.ltk.specs.Layout.{mark, version, versionPlace, countPlace, headerSize, recordSize, countLimit, recordPlace, little, numberAt}
 use Rattle.ltk.specs.Ltk.{entryOf, kindIn, tokenIn, recordBytes, headerBytes, flat, recordsBytes, image, judged, judge, passing, recordsOk, marked, countIn, entryAt, listed, entriesOf, entries, fileCheck, roomFor, readAnswer, delivered, readTokens, recordAt, bytesFor, writeAnswer, bytesBy, writtenBytes}
+use Rattle.ltk.specs.Reasons.{Meets, one-reason, refused-met}
 use Rattle.ltk.specs.Laws.{Bytes, Small, AllSmall, number-on, number-little, little-number, length-little, length-listed, at-first, passing-small, passing-judged, judged-done, length-header, length-image, records-back, bytes-back}
 
 -- a list that the writer takes: its count fits, and no record of it is bad
@@ -143,11 +144,12 @@ written-read s bytes n e =
     (count-is s n t, entries-fine s bytes n t, image-read s bytes n t)
 
 -- ---- every file
--- refused, for one reason, and then no image
+-- refused, since it meets the condition of exactly one refusal, and then no image
 pub record Refusing (s : List ℕ) : Type 0 where
   pub why : Refusal
   pub refused : fileCheck s ≡ Refused why
-  pub only-why : (r : Refusal) → fileCheck s ≡ Refused r → r ≡ why
+  pub met : Meets s why
+  pub only-why : (r : Refusal) → Meets s r → r ≡ why
   pub no-image : (us : List Entry) → Fine us → image us ≡ s → ⊥
 
 -- or the image of one list
@@ -167,7 +169,8 @@ either s bytes = by (fileCheck s) refl
         (record {
           why = r;
           refused = e;
-          only-why = λ q f. cc;
+          met = refused-met s r e;
+          only-why = λ q m. one-reason s r q (refused-met s r e) m;
           no-image = λ us f i. (let z : _≡_ {A = ℕ} 0 1 = cc (read-written us f .0, ap fileCheck i) in absurd (omega arith));
         })
     by (Done n) e =
@@ -208,7 +211,7 @@ in-order : map kindNumber kinds ≡ counted 0 54
 unfolding kinds counted
 in-order = refl
 
-number-again : (n : ℕ) → n ≤ 53 → kindNumber (kindIn (kindOf n)) ≡ n
+pub number-again : (n : ℕ) → n ≤ 53 → kindNumber (kindIn (kindOf n)) ≡ n
 unfolding kindOf
 number-again n h =
     rw (lt-ltb n 54 (omega arith))

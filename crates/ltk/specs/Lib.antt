@@ -1,7 +1,7 @@
 -- what a reader must believe
 pub mod Layout
 pub mod Ltk
-pub mod Answers
+pub mod Reasons
 pub mod Faithful
 pub mod Examples
 -- the laws that lead there, and those that the code cites

@@ -154,7 +154,7 @@ comment-from p m (c ∷ cs) st at n k d j e = go k j (comDone (comStep st c)) re
     go (suc k) j false q f =
         step-back st c (take (suc k) cs) q (f k (step-deep st c d q) (omega arith) (rw (q, until) at e))
 
-comment-blank : (cs : List ℕ) (at p m : ℕ) → commentEnd cs at ≡ At p m → Comment 1 (take (suc m) cs)
+pub comment-blank : (cs : List ℕ) (at p m : ℕ) → commentEnd cs at ≡ At p m → Comment 1 (take (suc m) cs)
 comment-blank cs at p m e = comment-from p m cs (Open 1) at 0 m (omega arith) (omega arith) e
 
 -- ---- the rest of a line

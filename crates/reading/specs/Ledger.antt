@@ -18,7 +18,7 @@ use Rattle.reading.specs.CallLaw.{Placed}
 use Rattle.reading.specs.Gaps.{gap}
 use Rattle.reading.specs.Measures.{Tiled, attempts, gap-last, hashes, marks, tailOf, token-next}
 use Rattle.reading.specs.Passes.{gap-sound}
-use Rattle.reading.specs.Run.{Run, also, run, shiftToken, stopped}
+use Rattle.reading.specs.Run.{Run, also, run, runWith, shiftToken, stopped}
 use Rattle.reading.specs.Story.{Story, again-end, failed, finished, halted, tell, took}
 use Rattle.reading.specs.Sums.{far-length, far-reach, far-whole, placed-cost, placed-far, placed-length, placed-weight, weight, weight-is}
 use Rattle.reading.specs.declared.Outcome.the-variants.{Ended, Running}
@@ -126,17 +126,17 @@ module _ (s : List ℕ) (shift limit room : ℕ) where
 
   -- (a) at the end of a run the advances are N, and for each delivered Hash the advances that the failed attempt at its place takes
   pub advances-at-end : whole .how ≡ Ended → whole .state .count ≡ length (chars s) + attempts s shift (whole .tokens)
-  unfolding run
+  unfolding runWith
   advances-at-end e = let h = counts s shift (tell s shift limit (suc (length s)) room startState refl) e in omega (arith, h)
 
   -- (b) gaps, tokens and dropped characters tile the text
   pub tiled-at-end : whole .how ≡ Ended → Tiled shift (chars s) 0 (whole .tokens)
-  unfolding run
+  unfolding runWith
   tiled-at-end e = tiles s shift (tell s shift limit (suc (length s)) room startState refl) e
 
   -- (c) in every run, whatever stops it: N, two for each hash that does not read #![, and N for each that does
   pub advances-bounded : whole .state .count ≤ length (chars s) + 2 * (hashes (chars s) - marks (chars s)) + marks (chars s) * length (chars s)
-  unfolding run
+  unfolding runWith
   advances-bounded =
       let h = bounds s shift (length (chars s)) (tell s shift limit (suc (length s)) room startState refl) (omega arith) in
       let w = weight-is (length (chars s)) (chars s) in
@@ -144,14 +144,14 @@ module _ (s : List ℕ) (shift limit room : ℕ) where
 
   -- a run never lacks calls: it stops at the end, at an error, at 14 or at 15
   pub stops : whole .how ≡ Running → ⊥
-  unfolding run
+  unfolding runWith
   stops e =
       let n : 0 + length (chars s) ≤ length s = short s 0 (omega arith) in
       runs-out s shift (tell s shift limit (suc (length s)) room startState refl) (omega (arith, n)) e
 
   -- a run that has ended is repeated as it is, by any further run
   pub repeats : (shift′ limit′ room′ : ℕ) → whole .how ≡ Ended → run s shift′ limit′ room′ (whole .state) ≡ stopped Ended (whole .state)
-  unfolding run
+  unfolding runWith
   repeats shift′ limit′ room′ e = go (settles s shift (tell s shift limit (suc (length s)) room startState refl))
     where
       go : Settled whole → run s shift′ limit′ room′ (whole .state) ≡ stopped Ended (whole .state)

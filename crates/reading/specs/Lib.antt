@@ -8,7 +8,6 @@ pub mod Regex
 pub mod Attribute
 pub mod Next
 pub mod Run
-pub mod Marked
 pub mod Blank
 pub mod Measures
 pub mod Ledger
@@ -17,6 +16,7 @@ pub mod Passes
 pub mod Calls
 pub mod CallLaw
 pub mod Blanks
+pub mod AnyCall
 pub mod Story
 pub mod Sums
 pub mod Steps

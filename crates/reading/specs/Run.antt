@@ -1,6 +1,6 @@
--- A run repeats calls. The shift, the work limit (15) and the room (14) are put on here.
+-- A run repeats calls. The shift, the work limit (15) and the room (14) are put on here, over any call; 01's is `next`.
 use Prim.Native.Nat.{_+_, _-_, suc, zero, ℕ}
-use mathlib.Core.Bool.{cond, false, true}
+use mathlib.Core.Bool.{Bool, cond, false, true}
 use mathlib.Core.List.{List, [], _∷_}
 use lib.Dec.{ltb}
 use lib.ListN.{drop, length}
@@ -42,15 +42,6 @@ stepBy shift limit t x =
       next = record { at = x .at; count = t .count + x .advances; done = doneBy (shiftWhat shift (x .what)) };
     })
 
--- 01: "Once a run has answered an error or the end, further calls repeat it with the same count and place"
-abbrev pub stepIn : Outcome → List ℕ → ℕ → ℕ → Tokenizer → Stepped
-stepIn Running s shift limit t = stepBy shift limit t (next (chars (drop (t .at) s)) (t .at))
-stepIn Ended s shift limit t = record { what = End; next = t }
-stepIn (Refused r) s shift limit t = record { what = Error r; next = t }
-
-unfoldable pub step : List ℕ → ℕ → ℕ → Tokenizer → Stepped
-step s shift limit t = stepIn (t .done) s shift limit t
-
 -- what a run answers: the tokens delivered, how it stopped, and the tokenizer afterwards
 pub record Run : Type 0 where
   pub tokens : List Token
@@ -63,20 +54,48 @@ stopped how t = record { tokens = []; how = how; state = t }
 abbrev pub also : Token → Run → Run
 also t r = record { tokens = t ∷ r .tokens; how = r .how; state = r .state }
 
-module _ (s : List ℕ) (shift limit : ℕ) where
-  -- at most k calls. 14 exactly when the call yields a token and the list is full; the tokenizer is then as before that call
-  unfoldable pub runFrom : ℕ → ℕ → Tokenizer → Run
-  runFrom zero room t = stopped Running t
-  runFrom (suc k) room t =
-      elim (step s shift limit t .what) [
-        | Got x ↦ elim (ltb 0 room) [
-          | true ↦ also x (runFrom k (room - 1) (step s shift limit t .next))
-          | false ↦ stopped (Refused (refusal NoRoom (x .start))) t
-        ]
-        | Error r ↦ stopped (Refused r) (step s shift limit t .next)
-        | End ↦ stopped Ended (step s shift limit t .next)
-      ]
+-- one turn of a run: t before the call, u after it, and the rest of the run
+module _ (rest : ℕ → Tokenizer → Run) (room : ℕ) (t u : Tokenizer) where
+  -- 14 exactly when the call yields a token and the list is full; the tokenizer is then as before that call
+  abbrev pub put : Bool → Token → Run
+  put true x = also x (rest (room - 1) u)
+  put false x = stopped (Refused (refusal NoRoom (x .start))) t
 
--- a token passes at least one byte, so this many calls suffice
-unfoldable pub run : List ℕ → ℕ → ℕ → ℕ → Tokenizer → Run
-run s shift limit room t = runFrom s shift limit (suc (length s)) room t
+  abbrev pub turn : What → Run
+  turn (Got x) = put (ltb 0 room) x
+  turn (Error r) = stopped (Refused r) u
+  turn End = stopped Ended u
+
+-- over any call: the characters left, and the place of the first
+module _ (call : List ℕ → ℕ → Call) where
+  -- 01: "Once a run has answered an error or the end, further calls repeat it with the same count and place"
+  abbrev pub stepInWith : Outcome → List ℕ → ℕ → ℕ → Tokenizer → Stepped
+  stepInWith Running s shift limit t = stepBy shift limit t (call (chars (drop (t .at) s)) (t .at))
+  stepInWith Ended s shift limit t = record { what = End; next = t }
+  stepInWith (Refused r) s shift limit t = record { what = Error r; next = t }
+
+  unfoldable pub stepWith : List ℕ → ℕ → ℕ → Tokenizer → Stepped
+  stepWith s shift limit t = stepInWith (t .done) s shift limit t
+
+  module _ (s : List ℕ) (shift limit : ℕ) where
+    -- at most k calls
+    unfoldable pub runFromWith : ℕ → ℕ → Tokenizer → Run
+    runFromWith zero room t = stopped Running t
+    runFromWith (suc k) room t = turn (runFromWith k) room t (stepWith s shift limit t .next) (stepWith s shift limit t .what)
+
+  -- as many calls as bytes, and one more: they suffice where a token passes at least one byte, as each of `next` does
+  unfoldable pub runWith : List ℕ → ℕ → ℕ → ℕ → Tokenizer → Run
+  runWith s shift limit room t = runFromWith s shift limit (suc (length s)) room t
+
+-- 01's reading
+abbrev pub stepIn : Outcome → List ℕ → ℕ → ℕ → Tokenizer → Stepped
+stepIn = stepInWith next
+
+abbrev pub step : List ℕ → ℕ → ℕ → Tokenizer → Stepped
+step = stepWith next
+
+abbrev pub runFrom : List ℕ → ℕ → ℕ → ℕ → ℕ → Tokenizer → Run
+runFrom = runFromWith next
+
+abbrev pub run : List ℕ → ℕ → ℕ → ℕ → Tokenizer → Run
+run = runWith next

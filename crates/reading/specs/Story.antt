@@ -13,10 +13,11 @@ use Rattle.record.specs.declared.Token.{Token}
 use Rattle.scan.specs.Far.{Far}
 use Rattle.scan.specs.Until.{left}
 use Rattle.scan.specs.declared.Skip.the-variants.{Past}
+use Rattle.reading.specs.AnyCall.{sticky-end, sticky-error, turn-end, turn-error, turn-full, turn-got}
 use Rattle.reading.specs.CallLaw.{Laid, LaidIn, Placed, next-laid}
 use Rattle.reading.specs.Gaps.{gap}
 use Rattle.reading.specs.Next.{next}
-use Rattle.reading.specs.Run.{Run, also, doneBy, run, runFrom, shiftToken, shiftWhat, step, stepBy, stopped}
+use Rattle.reading.specs.Run.{Run, also, doneBy, run, runFrom, runFromWith, shiftToken, shiftWhat, step, stepBy, stepWith, stopped}
 use Rattle.reading.specs.declared.Call.{Call}
 use Rattle.reading.specs.declared.Outcome.{Outcome}
 use Rattle.reading.specs.declared.Outcome.the-variants.{Ended, Refused, Running}
@@ -59,21 +60,17 @@ module _ (s : List ℕ) (shift limit : ℕ) where
   module _ (k room : ℕ) (t : Tokenizer) where
     pub run-got : (y : Token) → step s shift limit t .what ≡ Got y → ltb 0 room ≡ true
         → runFrom s shift limit (suc k) room t ≡ also y (runFrom s shift limit k (room - 1) (step s shift limit t .next))
-    unfolding runFrom
-    run-got y e q = rw (e, runFrom) (rw q)
+    run-got = turn-got next s shift limit k room t
 
     pub run-full : (y : Token) → step s shift limit t .what ≡ Got y → ltb 0 room ≡ false
         → runFrom s shift limit (suc k) room t ≡ stopped (Refused (refusal NoRoom (y .start))) t
-    unfolding runFrom
-    run-full y e q = rw (e, runFrom) (rw q)
+    run-full = turn-full next s shift limit k room t
 
     pub run-error : (z : Refusal) → step s shift limit t .what ≡ Error z → runFrom s shift limit (suc k) room t ≡ stopped (Refused z) (step s shift limit t .next)
-    unfolding runFrom
-    run-error z e = rw (e, runFrom)
+    run-error = turn-error next s shift limit k room t
 
     pub run-end : step s shift limit t .what ≡ End → runFrom s shift limit (suc k) room t ≡ stopped Ended (step s shift limit t .next)
-    unfolding runFrom
-    run-end e = rw (e, runFrom)
+    run-end = turn-end next s shift limit k room t
 
   -- the step of a tokenizer that is running
   unfoldable pub call : Tokenizer → Call
@@ -81,7 +78,7 @@ module _ (s : List ℕ) (shift limit : ℕ) where
 
   module _ (t : Tokenizer) (d : t .done ≡ Running) where
     step-is : step s shift limit t ≡ stepBy shift limit t (call t)
-    unfolding step call
+    unfolding stepWith call
     step-is = rw d
 
     pub step-over : ltb limit (t .count + call t .advances) ≡ true → step s shift limit t ≡ record { what = Error (refusal WorkLimit (t .at + shift)); next = t }
@@ -160,20 +157,14 @@ module _ (s : List ℕ) (shift limit : ℕ) where
     tell-suc false q = tell-on q (call t .what) refl ((laid t d) .is)
 
   pub tell : (k room : ℕ) (t : Tokenizer) → t .done ≡ Running → Story s shift k (t .at) (t .count) (runFrom s shift limit k room t)
-  unfolding runFrom
+  unfolding runFromWith
   tell zero room t d = halted refl refl (run-not-ended Running refl) (λ _. refl) d
   tell (suc k) room t d = tell-suc k room t d (λ m u. tell k m u) (ltb limit (t .count + call t .advances)) refl
 
 -- a tokenizer that has answered the end or an error repeats it, and stays as it is
 module _ (s : List ℕ) (shift limit room : ℕ) (t : Tokenizer) where
   pub again-end : t .done ≡ Ended → run s shift limit room t ≡ stopped Ended t
-  unfolding run step
-  again-end d =
-      let e : step s shift limit t ≡ record { what = End; next = t } = rw d in
-      run-end s shift limit (length s) room t (ap (λ (x : Stepped). x .what) e) ∙ ap (λ (x : Stepped). stopped Ended (x .next)) e
+  again-end = sticky-end next s shift limit room t
 
   pub again-error : (z : Refusal) → t .done ≡ Refused z → run s shift limit room t ≡ stopped (Refused z) t
-  unfolding run step
-  again-error z d =
-      let e : step s shift limit t ≡ record { what = Error z; next = t } = rw d in
-      run-error s shift limit (length s) room t z (ap (λ (x : Stepped). x .what) e) ∙ ap (λ (x : Stepped). stopped (Refused z) (x .next)) e
+  again-error = sticky-error next s shift limit room t

@@ -18,7 +18,7 @@ use Rattle.record.specs.declared.Token.{Token}
 use Rattle.reading.specs.Run.{Run}
 use Rattle.reading.specs.declared.Outcome.the-variants.{Refused}
 use Rattle.reading.specs.declared.Tokenizer.{Tokenizer}
-use Rattle.run.specs.Checked.{ranOf, wholeRun}
+use Rattle.run.specs.Checked.{ranOf, ranWith, wholeRun, wholeRunWith}
 use Rattle.run.specs.Numbers.{groupSize, numbersAll, numbersOf}
 use Rattle.run.specs.Pending.{advanceOf, beginOf, halted, pendOf}
 use Rattle.run.specs.Room.{Ready}
@@ -128,10 +128,10 @@ module _ (s : List ℕ) (shift limit room : ℕ) (t₀ : Tokenizer) (xs : List �
 module _ (s : List ℕ) (shift limit room : ℕ) (t₀ : Tokenizer) (xs : List ℕ) where
   pub refused-run : (r : Refusal) → checks s shift ≡ Stopped r
       → (halted 0 (Refused r) 0 t₀ .ran ≡ ranOf s shift limit room t₀) × (xs ≡ over (numbersAll (wholeRun s shift limit room t₀ .tokens)) xs)
-  unfolding ranOf wholeRun numbersAll
+  unfolding ranWith wholeRunWith numbersAll
   refused-run r e = rw e (refl, refl)
 
   pub off-run : checks s shift ≡ Passed → boundary s (t₀ .at) ≡ false
       → (halted 0 (Refused (refusal BadRecord 0)) (t₀ .count) t₀ .ran ≡ ranOf s shift limit room t₀) × (xs ≡ over (numbersAll (wholeRun s shift limit room t₀ .tokens)) xs)
-  unfolding ranOf wholeRun numbersAll
+  unfolding ranWith wholeRunWith numbersAll
   off-run e b = rw (e, b) (refl, refl)

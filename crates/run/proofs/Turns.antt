@@ -20,14 +20,14 @@ use Rattle.record.specs.declared.Checked.the-variants.{Passed, Refused as Stopp
 use Rattle.record.specs.declared.Code.the-variants.{BadRecord, NoRoom}
 use Rattle.record.specs.declared.Refusal.{Refusal}
 use Rattle.record.specs.declared.Token.{Token}
-use Rattle.reading.specs.Run.{Run, also, run, runFrom, step, stopped}
+use Rattle.reading.specs.Run.{Run, also, run, runFrom, runFromWith, runWith, step, stopped}
 use Rattle.reading.specs.Story.{run-end, run-error, run-full, run-got}
 use Rattle.reading.specs.declared.Outcome.{Outcome}
 use Rattle.reading.specs.declared.Outcome.the-variants.{Ended, Refused, Running}
 use Rattle.reading.specs.declared.Tokenizer.{Tokenizer}
 use Rattle.reading.specs.declared.What.{What}
 use Rattle.reading.specs.declared.What.the-variants.{End, Error, Got}
-use Rattle.run.specs.Checked.{countIf, ranOf, report, runIf, wholeRun}
+use Rattle.run.specs.Checked.{countIf, ranOf, ranWith, report, runIf, wholeRun, wholeRunWith}
 use Rattle.run.specs.Pending.{advanceOf, beginIf, beginOf, goes, halted, pendBy, pendOf}
 use Rattle.run.specs.Room.{Onward, Ready}
 use Rattle.run.specs.Steps.{ready-of, step-ready}
@@ -100,7 +100,7 @@ pub record Core (s : List ℕ) (shift limit room : ℕ) (t₀ : Tokenizer) (k : 
 
 module _ (s : List ℕ) (shift limit room : ℕ) (t₀ : Tokenizer) where
   begun : (c : Checked) → checks s shift ≡ c → (b : Bool) → boundary s (t₀ .at) ≡ b → Core s shift limit room t₀ (length s) (beginOf s shift limit room t₀) []
-  unfolding beginOf wholeRun onward run
+  unfolding beginOf wholeRunWith onward runWith
   begun Passed c true b =
       let r = ready-of s shift t₀ c b in
       let z : room - 0 ≡ room = omega arith in
@@ -154,7 +154,7 @@ module _ (s : List ℕ) (shift limit room : ℕ) (t₀ : Tokenizer) where
     pub again : Core s shift limit room t₀ less (advanceOf s shift limit room p) (done ++ (p .token ∷ []))
 
   pub core-turn : (k : ℕ) (p : Pending) (done : List Token) → Core s shift limit room t₀ k p done → p .going ≡ true → CoreNext k p done
-  unfolding onward runFrom advanceOf
+  unfolding onward runFromWith advanceOf
   core-turn zero p d i e =
       let h : before d (onwardBy s shift limit room true 0 p) ≡ wholeRun s shift limit room t₀ = rw e at (i .run-is) in
       absurd (i .ends (sym (ap (λ (r : Run). r .how) h)))
@@ -188,7 +188,7 @@ module _ (s : List ℕ) (shift limit room : ℕ) (t₀ : Tokenizer) where
 
   pub core-end : (k : ℕ) (p : Pending) (done : List Token) → Core s shift limit room t₀ k p done → p .going ≡ false
       → (p .ran ≡ ranOf s shift limit room t₀) × (done ≡ wholeRun s shift limit room t₀ .tokens)
-  unfolding onward ranOf
+  unfolding onward ranWith
   core-end k p done i e =
       let h : before done (onwardBy s shift limit room false k p) ≡ wholeRun s shift limit room t₀ = rw e at (i .run-is) in
       let d : done ≡ wholeRun s shift limit room t₀ .tokens = sym (append-nil done) ∙ ap (λ (r : Run). r .tokens) h in

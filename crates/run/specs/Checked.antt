@@ -1,4 +1,4 @@
--- The checks before any reading, for the public single call and for a whole run.
+-- The checks before any reading, for the public single call and for a whole run, over any call; 01's is `next`.
 use Prim.Native.Nat.{ℕ}
 use mathlib.Core.Bool.{cond}
 use mathlib.Core.List.{List}
@@ -9,28 +9,14 @@ use Rattle.record.specs.Records.{refusal}
 use Rattle.record.specs.declared.Checked.{Checked}
 use Rattle.record.specs.declared.Checked.the-variants.{Passed, Refused as Stopped}
 use Rattle.record.specs.declared.Code.the-variants.{BadRecord}
-use Rattle.reading.specs.Run.{Run, run, step, stopped}
+use Rattle.reading.specs.Next.{next}
+use Rattle.reading.specs.Run.{Run, runWith, stepWith, stopped}
+use Rattle.reading.specs.declared.Call.{Call}
 use Rattle.reading.specs.declared.Outcome.the-variants.{Refused}
 use Rattle.reading.specs.declared.Stepped.{Stepped}
 use Rattle.reading.specs.declared.Tokenizer.{Tokenizer}
 use Rattle.reading.specs.declared.What.the-variants.{Error}
 use Rattle.run.specs.declared.Ran.{Ran}
-
--- 01: "A public single call repeats the checks, then answers 20, nothing changed, for a cursor off its text's boundaries."
-abbrev pub stepIf : Checked → List ℕ → ℕ → ℕ → Tokenizer → Stepped
-stepIf Passed s shift limit t = cond (boundary s (t .at)) (step s shift limit t) (record { what = Error (refusal BadRecord 0); next = t })
-stepIf (Stopped r) s shift limit t = record { what = Error r; next = t }
-
-unfoldable pub nextToken : List ℕ → ℕ → ℕ → Tokenizer → Stepped
-nextToken s shift limit t = stepIf (checks s shift) s shift limit t
-
--- a whole run, with the same two checks before it
-abbrev pub runIf : Checked → List ℕ → ℕ → ℕ → ℕ → Tokenizer → Run
-runIf Passed s shift limit room t = cond (boundary s (t .at)) (run s shift limit room t) (stopped (Refused (refusal BadRecord 0)) t)
-runIf (Stopped r) s shift limit room t = stopped (Refused r) t
-
-unfoldable pub wholeRun : List ℕ → ℕ → ℕ → ℕ → Tokenizer → Run
-wholeRun s shift limit room t = runIf (checks s shift) s shift limit room t
 
 -- 01: "11 to 13 report count 0"; every other answer reports the tokenizer's
 abbrev pub countIf : Checked → ℕ → ℕ
@@ -41,5 +27,40 @@ countIf (Stopped r) n = 0
 abbrev pub report : Checked → Run → Ran
 report c r = record { stored = length (r .tokens); how = r .how; advances = countIf c (r .state .count); state = r .state }
 
-unfoldable pub ranOf : List ℕ → ℕ → ℕ → ℕ → Tokenizer → Ran
-ranOf s shift limit room t = report (checks s shift) (wholeRun s shift limit room t)
+-- over any call: the characters left, and the place of the first
+module _ (call : List ℕ → ℕ → Call) where
+  -- 01: "A public single call repeats the checks, then answers 20, nothing changed, for a cursor off its text's boundaries."
+  abbrev pub stepIfWith : Checked → List ℕ → ℕ → ℕ → Tokenizer → Stepped
+  stepIfWith Passed s shift limit t =
+      cond (boundary s (t .at)) (stepWith call s shift limit t) (record { what = Error (refusal BadRecord 0); next = t })
+  stepIfWith (Stopped r) s shift limit t = record { what = Error r; next = t }
+
+  unfoldable pub nextTokenWith : List ℕ → ℕ → ℕ → Tokenizer → Stepped
+  nextTokenWith s shift limit t = stepIfWith (checks s shift) s shift limit t
+
+  -- a whole run, with the same two checks before it
+  abbrev pub runIfWith : Checked → List ℕ → ℕ → ℕ → ℕ → Tokenizer → Run
+  runIfWith Passed s shift limit room t = cond (boundary s (t .at)) (runWith call s shift limit room t) (stopped (Refused (refusal BadRecord 0)) t)
+  runIfWith (Stopped r) s shift limit room t = stopped (Refused r) t
+
+  unfoldable pub wholeRunWith : List ℕ → ℕ → ℕ → ℕ → Tokenizer → Run
+  wholeRunWith s shift limit room t = runIfWith (checks s shift) s shift limit room t
+
+  unfoldable pub ranWith : List ℕ → ℕ → ℕ → ℕ → Tokenizer → Ran
+  ranWith s shift limit room t = report (checks s shift) (wholeRunWith s shift limit room t)
+
+-- 01's reading
+abbrev pub stepIf : Checked → List ℕ → ℕ → ℕ → Tokenizer → Stepped
+stepIf = stepIfWith next
+
+abbrev pub nextToken : List ℕ → ℕ → ℕ → Tokenizer → Stepped
+nextToken = nextTokenWith next
+
+abbrev pub runIf : Checked → List ℕ → ℕ → ℕ → ℕ → Tokenizer → Run
+runIf = runIfWith next
+
+abbrev pub wholeRun : List ℕ → ℕ → ℕ → ℕ → Tokenizer → Run
+wholeRun = wholeRunWith next
+
+abbrev pub ranOf : List ℕ → ℕ → ℕ → ℕ → Tokenizer → Ran
+ranOf = ranWith next

@@ -14,7 +14,7 @@ use Rattle.record.specs.declared.Checked.the-variants.{Passed}
 use Rattle.scan.specs.Until.{left}
 use Rattle.reading.specs.Inside.{Inside, InsideIn, next-inside}
 use Rattle.reading.specs.Next.{next}
-use Rattle.reading.specs.Run.{step, stepBy, stepIn}
+use Rattle.reading.specs.Run.{step, stepBy, stepIn, stepWith}
 use Rattle.reading.specs.Steps.{Within, call-within}
 use Rattle.reading.specs.declared.Outcome.{Outcome}
 use Rattle.reading.specs.declared.Outcome.the-variants.{Ended, Refused, Running}
@@ -67,12 +67,12 @@ module _ (s : List ℕ) (shift limit : ℕ) (t : Tokenizer) (r : Ready s shift t
 
   -- the tokenizer stays ready
   pub step-ready : Ready s shift (step s shift limit t .next)
-  unfolding step
+  unfolding stepWith
   step-ready = record { fits = r .fits; within = step-in (t .done) }
 
 -- a tokenizer that is running reads on
 pub step-running : (s : List ℕ) (shift limit : ℕ) (t : Tokenizer) → t .done ≡ Running → step s shift limit t ≡ stepBy shift limit t (next (left s (t .at)) (t .at))
-unfolding step
+unfolding stepWith
 step-running s shift limit t d = rw d
 
 -- a payload's places lie in the text

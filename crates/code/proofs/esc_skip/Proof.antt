@@ -9,7 +9,8 @@ use Rattle.utf8.specs.Laws.{Seen, seen, ended}
 use Rattle.scan.specs.declared.Sought.the-variants.{Quote}
 use Rattle.scan.specs.Far.{Lands, lands, closed-within, fits}
 use Rattle.scan.specs.Passes.{quote-past, seek-none}
-use Rattle.code.specs.Code.{escSkip, escPast}
+use Rattle.code.specs.Code.{escSkip}
+use Rattle.code.specs.Laws.{esc-passed, escPassed}
 use Rattle.code.proofs.esc_skip.Statement.{statement}
 use Rattle.code.proofs.esc_skip.Tie as tie
 use Rattle.code.proofs.esc_skip.Reads as reads
@@ -70,12 +71,10 @@ lost-requires-2 : tie.Need-lost-requires-2
 lost-requires-2 c κs = search needs
 
 returns : tie.Need-returns
-unfolding escSkip
-returns c = let h = here (c .before .before .before .before .before) in let l = far (c .before) in rw (h .next, ← (h .width)) ((rw (← (l .rest)) at (c .quote-end .ensures)) ∙ ap (escPast _ _) (sym (c .before .before .place .given .1) ∙ c .before .before .before .before .take-until .ensures))
+returns c = let h = here (c .before .before .before .before .before) in let l = far (c .before) in rw (h .next, esc-passed _ _ _ _, ← (h .width)) ((rw (← (l .rest)) at (c .quote-end .ensures)) ∙ ap (escPassed _ _) (sym (c .before .before .place .given .1) ∙ c .before .before .before .before .take-until .ensures))
 
 returns-2 : tie.Need-returns-2
-unfolding escSkip
-returns-2 c = let h = here (c .before .before .before .before .before) in rw (h .next, ← (h .width)) (c .lost .ensures ∙ ap (escPast _ (chars (drop (c .before .before .before .before .before .before .before .before .before .before .args .at + c .before .before .before .before .before .before .width .given .0 .1 .0) (c .before .before .before .before .before .before .before .before .before .before .args .s .now)))) (sym (c .before .before .place2 .given .1) ∙ c .before .before .before .before .take-until .ensures))
+returns-2 c = let h = here (c .before .before .before .before .before) in rw (h .next, esc-passed _ _ _ _, ← (h .width)) (c .lost .ensures ∙ ap (escPassed _ (chars (drop (c .before .before .before .before .before .before .before .before .before .before .args .at + c .before .before .before .before .before .before .width .given .0 .1 .0) (c .before .before .before .before .before .before .before .before .before .before .args .s .now)))) (sym (c .before .before .place2 .given .1) ∙ c .before .before .before .before .take-until .ensures))
 
 returns-3 : tie.Need-returns-3
 unfolding escSkip

@@ -5,6 +5,7 @@ use native.Mathlib.Omega.{arith}
 use Rattle.utf8.specs.Laws.{Seen, seen, ended}
 use Rattle.utf8.specs.Picks.{picks}
 use Rattle.code.specs.Code.{oneSkip}
+use Rattle.code.specs.Laws.{one-passed}
 use Rattle.code.proofs.one_skip.Statement.{statement}
 use Rattle.code.proofs.one_skip.Tie as tie
 use Rattle.code.proofs.one_skip.Reads as reads
@@ -29,8 +30,7 @@ quote-end-requires : tie.Need-quote-end-requires
 quote-end-requires c κs = search needs
 
 returns : tie.Need-returns
-unfolding oneSkip
-returns c = let h = here (c .before .before) in rw (h .next, ← (h .width)) (search picks)
+returns c = let h = here (c .before .before) in rw (h .next, one-passed _ _ _ _, ← (h .width)) (search picks)
 
 enum-told : tie.Need-enum-told
 enum-told c = search needs
@@ -39,8 +39,7 @@ quote-end-requires-2 : tie.Need-quote-end-requires-2
 quote-end-requires-2 c κs = search needs
 
 returns-2 : tie.Need-returns-2
-unfolding oneSkip
-returns-2 c = let h = here (c .before) in rw (h .next, ← (h .width)) (search picks)
+returns-2 c = let h = here (c .before) in rw (h .next, one-passed _ _ _ _, ← (h .width)) (search picks)
 
 returns-3 : tie.Need-returns-3
 unfolding oneSkip

@@ -2,7 +2,7 @@
 use borrow.Author.Needs.{needs}
 use mathlib.Core.Path.{sym, _∙_}
 use Rattle.utf8.specs.Laws.{seen, ended}
-use Rattle.code.specs.Code.{quoteEnd}
+use Rattle.code.specs.Laws.{end-lost, end-passed}
 use Rattle.code.proofs.quote_end.Statement.{statement}
 use Rattle.code.proofs.quote_end.Tie as tie
 use Rattle.code.proofs.quote_end.Reads as reads
@@ -23,12 +23,10 @@ lost-requires : tie.Need-lost-requires
 lost-requires c κs = search needs
 
 returns : tie.Need-returns
-unfolding quoteEnd
-returns c = rw ((seen _ _ _ _ (sym (c .before .before .char-at .ensures) ∙ c .enum-told .given .1)) .next)
+returns c = rw ((seen _ _ _ _ (sym (c .before .before .char-at .ensures) ∙ c .enum-told .given .1)) .next) (sym (end-passed _ _ _ _ _))
 
 returns-2 : tie.Need-returns-2
-unfolding quoteEnd
-returns-2 c = rw ((ended _ _ (sym (c .before .before .before .char-at .ensures) ∙ c .before .enum-told2 .given .1)) .none) (c .lost .ensures)
+returns-2 c = rw ((ended _ _ (sym (c .before .before .before .char-at .ensures) ∙ c .before .enum-told2 .given .1)) .none) (c .lost .ensures ∙ sym (end-lost _ _ _))
 
 pub quote-end-spec : {M : Type 1} → statement M
 quote-end-spec =

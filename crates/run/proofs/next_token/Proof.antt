@@ -1,7 +1,7 @@
 -- `run::next_token` meets its contract.
 use mathlib.Core.Path.{sym, _∙_}
 use Rattle.utf8.specs.Picks.{flags}
-use Rattle.run.specs.Checked.{nextToken}
+use Rattle.run.specs.Checked.{nextTokenWith}
 use Rattle.run.specs.Steps.{ready-of}
 use borrow.Author.Needs.{needs}
 use Rattle.run.proofs.next_token.Statement.{statement}
@@ -25,18 +25,18 @@ step-requires : tie.Need-step-requires
 step-requires c κs = ready-of _ _ _ (sym (c .before .before .before .before .checks .ensures) ∙ c .before .before .enum-told .given .1) (sym (c .before .is-boundary .ensures) ∙ c .if1 .taken)
 
 returns : tie.Need-returns
-unfolding nextToken
+unfolding nextTokenWith
 returns c = rw (← (c .before .before .before .before .before .checks .ensures)) (rw (c .before .before .before .enum-told .given .1) (search flags))
 
 enum-known-r : tie.Need-enum-known-r
 enum-known-r c = search needs
 
 returns-2 : tie.Need-returns-2
-unfolding nextToken
+unfolding nextTokenWith
 returns-2 c = rw (← (c .before .before .before .before .checks .ensures)) (rw (c .before .before .enum-told .given .1) (search flags))
 
 returns-3 : tie.Need-returns-3
-unfolding nextToken
+unfolding nextTokenWith
 returns-3 c = rw (← (c .before .before .before .checks .ensures)) (rw (c .before .r .given .1))
 
 pub next-token-spec : {M : Type 1} → statement M

@@ -1,6 +1,6 @@
 -- `run::step` meets its contract.
 use mathlib.Core.Path.{ap, sym, _∙_}
-use Rattle.reading.specs.Run.{step}
+use Rattle.reading.specs.Run.{stepWith}
 use Rattle.run.specs.Steps.{step-running}
 use borrow.Author.Needs.{needs}
 use Rattle.run.proofs.step.Statement.{statement}
@@ -25,11 +25,11 @@ returns : tie.Need-returns
 returns c = c .read-on .ensures ∙ sym (step-running _ _ _ _ (c .before .enum-told .given .1))
 
 returns-2 : tie.Need-returns-2
-unfolding step
+unfolding stepWith
 returns-2 c = rw (c .enum-told2 .given .1)
 
 returns-3 : tie.Need-returns-3
-unfolding step
+unfolding stepWith
 returns-3 c = rw (c .before .done .given .1)
 
 pub step-spec : {M : Type 1} → statement M

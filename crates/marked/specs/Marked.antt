@@ -1,11 +1,12 @@
--- The marked examples: one table and one claim.
+-- The marked examples: one table, and one claim of the reading, one of what `run::run` answers, with the checks before it.
 use Prim.Native.Nat.{ℕ}
 use mathlib.Core.List.{List, [], _∷_}
 use mathlib.Core.Path.{_≡_, refl}
 use Rattle.utf8.specs.Chars.{'!, '#, '*, '/, '1, '<, '=, '>, '?, '[, '], 'a, 'b, 'c, 'dot, 'dquote, 'i, 'n, 'newline, 'quote, 'r, 'semi, 'underscore, 'x}
-use Rattle.utf8.specs.Utf8.{chars, charsFrom, high, lead, low, sight, widthOf}
+use Rattle.utf8.specs.Utf8.{chars, charsFrom, high, lead, low, reach, sight, widthOf}
 use Rattle.unicode.specs.Ranges.{holds, inRanges}
 use Rattle.unicode.specs.Tables.{continueRanges, startRanges}
+use Rattle.record.specs.Checks.{checks}
 use Rattle.record.specs.Records.{refusal, tokenOf}
 use Rattle.record.specs.declared.Code.{Code}
 use Rattle.record.specs.declared.Code.the-variants.{ExpectedStringLiteral, NoRoom, UnrecognizedToken, UnterminatedBlockComment, UnterminatedCharacterLiteral, UnterminatedStringLiteral, WorkLimit}
@@ -17,17 +18,18 @@ use Rattle.scan.specs.IfNext.{ifNext}
 use Rattle.scan.specs.Until.{until}
 use Rattle.scan.specs.Walk.{walkFrom}
 use Rattle.code.specs.Code.{bodySkip, closes, codeTurn, escSkip, oneSkip, opens, quoteEnd, quoteSkip, rSkip, slashSkip}
 use Rattle.reading.specs.Answers.{deliver, more, plain, refuse, startState}
 use Rattle.reading.specs.Attribute.{attempt, attemptBody, attemptBracket, attributeToken, attributeTurn, dropped, hash}
 use Rattle.reading.specs.Gaps.{commentTurn, gap, gapTurn}
 use Rattle.reading.specs.Next.{next, starts, token, tokenOrEnd}
 use Rattle.reading.specs.Quotes.{charLiteral, escape, lifetimeish, stringLiteral}
 use Rattle.reading.specs.Regex.{hashed, rWord, regexLiteral, regexToken}
-use Rattle.reading.specs.Run.{Run, run, runFrom, step}
+use Rattle.reading.specs.Run.{Run, run, runFromWith, runWith, stepWith}
 use Rattle.reading.specs.Symbols.{arrowCode, arrowLook, bang, colon, dot, equals, half, look, minus, rightArrow, single, singles, stray, tilde}
 use Rattle.reading.specs.Words.{idToken, identifierish, keywordToken, keywords, spells, useToken, wordToken}
 use Rattle.reading.specs.declared.Outcome.{Outcome}
 use Rattle.reading.specs.declared.Outcome.the-variants.{Ended, Refused}
+use Rattle.run.specs.Checked.{ranOf, ranWith, wholeRun, wholeRunWith}
 
 pub record Row : Type 0 where
   pub tokens : List Token
@@ -90,8 +92,20 @@ marked =
     ∷ []
 
 pub marked-examples : readAll marked ≡ expected marked
-unfolding readAll expected marked run runFrom step next gap gapTurn commentTurn tokenOrEnd token starts single singles half stray bang colon dot look tilde minus arrowLook arrowCode rightArrow equals attributeTurn attemptBody attemptBracket attempt dropped attributeToken hash regexToken hashed regexLiteral rWord spells keywords useToken idToken keywordToken wordToken identifierish escape stringLiteral charLiteral lifetimeish slashSkip quoteEnd oneSkip escSkip quoteSkip bodySkip rSkip opens closes codeTurn walkFrom deliver plain refuse more ifNext until after chars charsFrom sight lead low high widthOf startRanges continueRanges holds inRanges
+unfolding readAll expected marked runWith runFromWith stepWith next gap gapTurn commentTurn tokenOrEnd token starts single singles half stray bang colon dot look tilde minus arrowLook arrowCode rightArrow equals attributeTurn attemptBody attemptBracket attempt dropped attributeToken hash regexToken hashed regexLiteral rWord spells keywords useToken idToken keywordToken wordToken identifierish escape stringLiteral charLiteral lifetimeish slashSkip quoteEnd oneSkip escSkip quoteSkip bodySkip rSkip opens closes codeTurn walkFrom deliver plain refuse more ifNext until after chars charsFrom sight lead low high widthOf startRanges continueRanges holds inRanges
 marked-examples = refl
+
+-- what `run::run` stores and answers, with the three checks and the boundary before the reading
+abbrev ran : List ℕ → Row
+ran s = row (wholeRun s 0 1000 1000 startState .tokens) (ranOf s 0 1000 1000 startState .how) (ranOf s 0 1000 1000 startState .advances)
+
+unfoldable pub ranAll : List (List ℕ × Row) → List Row
+ranAll [] = []
+ranAll (r ∷ rs) = ran (r .0) ∷ ranAll rs
+
+pub marked-runs : ranAll marked ≡ expected marked
+unfolding ranAll expected marked ranWith wholeRunWith checks reach runWith runFromWith stepWith next gap gapTurn commentTurn tokenOrEnd token starts single singles half stray bang colon dot look tilde minus arrowLook arrowCode rightArrow equals attributeTurn attemptBody attemptBracket attempt dropped attributeToken hash regexToken hashed regexLiteral rWord spells keywords useToken idToken keywordToken wordToken identifierish escape stringLiteral charLiteral lifetimeish slashSkip quoteEnd oneSkip escSkip quoteSkip bodySkip rSkip opens closes codeTurn walkFrom deliver plain refuse more ifNext until after chars charsFrom sight lead low high widthOf startRanges continueRanges holds inRanges
+marked-runs = refl
 
 -- more of the paper's examples, with shift, work limit and room
 abbrev readWith : ℕ × ℕ × ℕ → List ℕ → Row
@@ -130,5 +144,5 @@ further =
     ∷ []
 
 pub further-examples : readAllWith further ≡ expectedWith further
-unfolding readAllWith expectedWith further run runFrom step next gap gapTurn commentTurn tokenOrEnd token starts single singles half stray bang colon dot look tilde minus arrowLook arrowCode rightArrow equals attributeTurn attemptBody attemptBracket attempt dropped attributeToken hash regexToken hashed regexLiteral rWord spells keywords useToken idToken keywordToken wordToken identifierish escape stringLiteral charLiteral lifetimeish slashSkip quoteEnd oneSkip escSkip quoteSkip bodySkip rSkip opens closes codeTurn walkFrom deliver plain refuse more ifNext until after chars charsFrom sight lead low high widthOf startRanges continueRanges holds inRanges
+unfolding readAllWith expectedWith further runWith runFromWith stepWith next gap gapTurn commentTurn tokenOrEnd token starts single singles half stray bang colon dot look tilde minus arrowLook arrowCode rightArrow equals attributeTurn attemptBody attemptBracket attempt dropped attributeToken hash regexToken hashed regexLiteral rWord spells keywords useToken idToken keywordToken wordToken identifierish escape stringLiteral charLiteral lifetimeish slashSkip quoteEnd oneSkip escSkip quoteSkip bodySkip rSkip opens closes codeTurn walkFrom deliver plain refuse more ifNext until after chars charsFrom sight lead low high widthOf startRanges continueRanges holds inRanges
 further-examples = refl

@@ -1,0 +1,75 @@
+-- What holds of a run over any call: its turns, its room, and the answers that it repeats. Nothing of the reading is asked.
+use Prim.Native.Nat.{_-_, _≤_, suc, zero, ℕ}
+use native.Mathlib.Omega.{arith}
+use mathlib.Core.Bool.{Bool, false, true}
+use mathlib.Core.List.{List}
+use mathlib.Core.Path.{_∙_, _≡_, ap, refl}
+use lib.Dec.{ltb}
+use lib.ListN.{length}
+use Rattle.utf8.specs.Picks.{tests}
+use Rattle.record.specs.Records.{refusal}
+use Rattle.record.specs.declared.Code.the-variants.{NoRoom}
+use Rattle.record.specs.declared.Refusal.{Refusal}
+use Rattle.record.specs.declared.Token.{Token}
+use Rattle.reading.specs.Run.{also, runFromWith, runWith, stepWith, stopped}
+use Rattle.reading.specs.declared.Call.{Call}
+use Rattle.reading.specs.declared.Outcome.the-variants.{Ended, Refused}
+use Rattle.reading.specs.declared.Stepped.{Stepped}
+use Rattle.reading.specs.declared.Tokenizer.{Tokenizer}
+use Rattle.reading.specs.declared.What.{What}
+use Rattle.reading.specs.declared.What.the-variants.{End, Error, Got}
+
+module _ (call : List ℕ → ℕ → Call) (s : List ℕ) (shift limit : ℕ) where
+  -- a turn of the run, by what the step answers
+  module _ (k room : ℕ) (t : Tokenizer) where
+    pub turn-got : (y : Token) → stepWith call s shift limit t .what ≡ Got y → ltb 0 room ≡ true
+        → runFromWith call s shift limit (suc k) room t ≡ also y (runFromWith call s shift limit k (room - 1) (stepWith call s shift limit t .next))
+    unfolding runFromWith
+    turn-got y e q = rw (e, runFromWith) (rw q)
+
+    pub turn-full : (y : Token) → stepWith call s shift limit t .what ≡ Got y → ltb 0 room ≡ false
+        → runFromWith call s shift limit (suc k) room t ≡ stopped (Refused (refusal NoRoom (y .start))) t
+    unfolding runFromWith
+    turn-full y e q = rw (e, runFromWith) (rw q)
+
+    pub turn-error : (z : Refusal) → stepWith call s shift limit t .what ≡ Error z
+        → runFromWith call s shift limit (suc k) room t ≡ stopped (Refused z) (stepWith call s shift limit t .next)
+    unfolding runFromWith
+    turn-error z e = rw (e, runFromWith)
+
+    pub turn-end : stepWith call s shift limit t .what ≡ End → runFromWith call s shift limit (suc k) room t ≡ stopped Ended (stepWith call s shift limit t .next)
+    unfolding runFromWith
+    turn-end e = rw (e, runFromWith)
+
+  -- a tokenizer that has answered the end or an error repeats it, and stays as it is
+  module _ (room : ℕ) (t : Tokenizer) where
+    pub sticky-end : t .done ≡ Ended → runWith call s shift limit room t ≡ stopped Ended t
+    unfolding runWith stepWith
+    sticky-end d =
+        let e : stepWith call s shift limit t ≡ record { what = End; next = t } = rw d in
+        turn-end (length s) room t (ap (λ (x : Stepped). x .what) e) ∙ ap (λ (x : Stepped). stopped Ended (x .next)) e
+
+    pub sticky-error : (z : Refusal) → t .done ≡ Refused z → runWith call s shift limit room t ≡ stopped (Refused z) t
+    unfolding runWith stepWith
+    sticky-error z d =
+        let e : stepWith call s shift limit t ≡ record { what = Error z; next = t } = rw d in
+        turn-error (length s) room t z (ap (λ (x : Stepped). x .what) e) ∙ ap (λ (x : Stepped). stopped (Refused z) (x .next)) e
+
+  -- a run delivers no more tokens than there is room for
+  pub room-from : (k room : ℕ) (t : Tokenizer) → length (runFromWith call s shift limit k room t .tokens) ≤ room
+  unfolding runFromWith
+  room-from zero room t = omega arith
+  room-from (suc k) room t = go (room-from k (room - 1)) (stepWith call s shift limit t .what) refl
+    where
+      Again : Type 0
+      Again = (u : Tokenizer) → length (runFromWith call s shift limit k (room - 1) u .tokens) ≤ room - 1
+
+      some : Again → (y : Token) → stepWith call s shift limit t .what ≡ Got y → (b : Bool) → ltb 0 room ≡ b
+          → length (runFromWith call s shift limit (suc k) room t .tokens) ≤ room
+      some ih y e true q = rw (turn-got k room t y e q) (let h = ih (stepWith call s shift limit t .next) in omega (tests, h))
+      some ih y e false q = rw (turn-full k room t y e q) (omega arith)
+
+      go : Again → (w : What) → stepWith call s shift limit t .what ≡ w → length (runFromWith call s shift limit (suc k) room t .tokens) ≤ room
+      go ih (Got y) e = some ih y e (ltb 0 room) refl
+      go ih (Error z) e = rw (turn-error k room t z e) (omega arith)
+      go ih End e = rw (turn-end k room t e) (omega arith)
