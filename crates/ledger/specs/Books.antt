@@ -15,7 +15,7 @@ use Rattle.reading.specs.Answers.{startState}
 use Rattle.reading.specs.Attribute.{dropped}
 use Rattle.reading.specs.Measures.{Tiled, attempts, gap-last, hashes, isAttribute, marks, tailOf, token-next}
 use Rattle.reading.specs.declared.Outcome.the-variants.{Ended, Running}
-use Rattle.run.specs.Checked.{ranOf, report, wholeRun}
+use Rattle.run.specs.Checked.{ranOf, ranWith, report, wholeRun}
 use Rattle.run.specs.Numbers.{groupSize, numbersAll}
 use Rattle.run.specs.declared.Ran.{Ran}
 use Rattle.ledger.specs.Order.{found}
@@ -84,7 +84,7 @@ others-drop-nothing kind cs e = rw e
 -- ---- THE THEOREMS, of a run of the text s
 module _ (s : List ℕ) (shift limit : ℕ) (before : List Token) (r : Ran) (after : List Token) (contract : Runs s shift limit before r after) where
   reported : r ≡ report (checks s shift) (wholeRun s shift limit (length before) startState)
-  unfolding ranOf
+  unfolding ranWith
   reported = contract .0
 
   held-are : wholeRun s shift limit (length before) startState .tokens ≡ held r after

@@ -14,9 +14,9 @@ use Rattle.reading.specs.Attribute.{attempt, attemptBody, attemptBracket, attri
 use Rattle.reading.specs.Gaps.{gap, gapTurn}
 use Rattle.reading.specs.Measures.{hashes, marks, readsAttribute}
 use Rattle.reading.specs.Next.{next, starts, token, tokenOrEnd}
-use Rattle.reading.specs.Run.{run, runFrom, step}
+use Rattle.reading.specs.Run.{runFromWith, runWith, stepWith}
 use Rattle.reading.specs.Symbols.{bang, single, singles}
-use Rattle.run.specs.Checked.{ranOf, wholeRun}
+use Rattle.run.specs.Checked.{ranOf, ranWith, wholeRunWith}
 use Rattle.ledger.specs.Books.{B, H, N}
 
 -- #!, : each of the two characters after the hash is passed twice
@@ -24,7 +24,7 @@ abbrev twice : List ℕ
 twice = '# ∷ '! ∷ 'comma ∷ []
 
 pub bound-reached : (ranOf twice 0 99 9 startState .advances ≡ 5) × (N twice + 2 * (H twice - B twice) + B twice * N twice ≡ 5)
-unfolding ranOf wholeRun checks run runFrom step next gap gapTurn tokenOrEnd token starts single singles bang attempt attemptBracket hash walkFrom deliver plain more ifNext chars charsFrom sight lead low high widthOf reach hashes marks readsAttribute
+unfolding ranWith wholeRunWith checks runWith runFromWith stepWith next gap gapTurn tokenOrEnd token starts single singles bang attempt attemptBracket hash walkFrom deliver plain more ifNext chars charsFrom sight lead low high widthOf reach hashes marks readsAttribute
 bound-reached = (refl, refl)
 
 -- #![a]
@@ -32,5 +32,5 @@ abbrev last : List ℕ
 last = '# ∷ '! ∷ '[ ∷ 'a ∷ '] ∷ []
 
 pub last-drops-nothing : (ranOf last 0 99 9 startState .advances ≡ 5) × (ranOf last 0 99 9 startState .stored ≡ 1) × (N last ≡ 5)
-unfolding ranOf wholeRun checks run runFrom step next gap gapTurn tokenOrEnd token attempt attemptBracket attemptBody attributeTurn attributeToken dropped after hash walkFrom more ifNext until chars charsFrom sight lead low high widthOf reach
+unfolding ranWith wholeRunWith checks runWith runFromWith stepWith next gap gapTurn tokenOrEnd token attempt attemptBracket attemptBody attributeTurn attributeToken dropped after hash walkFrom more ifNext until chars charsFrom sight lead low high widthOf reach
 last-drops-nothing = (refl, refl, refl)

@@ -3,8 +3,10 @@ pub mod Spent
 pub mod Books
 pub mod Order
 pub mod Payloads
+pub mod Resumed
 pub mod Written
 pub mod Examples
 -- the laws that lead there
+pub mod Answered
 pub mod Codes
 pub mod Runs

@@ -22,7 +22,7 @@ use Rattle.scan.specs.Until.{left}
 use Rattle.reading.specs.Answers.{startState}
 use Rattle.reading.specs.CallLaw.{Placed, next-laid}
 use Rattle.reading.specs.Next.{next}
-use Rattle.reading.specs.Run.{run, runFrom, shiftToken, shiftWhat, step, stepBy, stepIn}
+use Rattle.reading.specs.Run.{run, runFrom, runFromWith, runWith, shiftToken, shiftWhat, step, stepBy, stepIn, stepWith}
 use Rattle.reading.specs.Story.{run-end, run-error, run-full, run-got}
 use Rattle.reading.specs.Sums.{placed-far, placed-length}
 use Rattle.reading.specs.declared.Outcome.{Outcome}
@@ -31,7 +31,7 @@ use Rattle.reading.specs.declared.Stepped.{Stepped}
 use Rattle.reading.specs.declared.Tokenizer.{Tokenizer}
 use Rattle.reading.specs.declared.What.{What}
 use Rattle.reading.specs.declared.What.the-variants.{End, Error, Got}
-use Rattle.run.specs.Checked.{nextToken, ranOf, runIf, stepIf, wholeRun}
+use Rattle.run.specs.Checked.{nextToken, nextTokenWith, ranOf, ranWith, runIf, stepIf, wholeRun, wholeRunWith}
 use Rattle.run.specs.Steps.{boundary-within}
 use Rattle.run.specs.declared.Ran.{Ran}
 
@@ -81,13 +81,13 @@ module _ (s : List ℕ) (shift limit : ℕ) (t : Tokenizer) where
   in-got (Refused z) y e = no-got z y e
 
   step-got : (y : Token) → step s shift limit t .what ≡ Got y → Gives y (step s shift limit t)
-  unfolding step
+  unfolding stepWith
   step-got y e = in-got (t .done) y e
 
 -- ---- so the tokens of a run are those of its calls
 module _ (s : List ℕ) (shift limit : ℕ) where
   called-from : (k room : ℕ) (t : Tokenizer) → Called s shift (t .at) (runFrom s shift limit k room t .tokens)
-  unfolding runFrom
+  unfolding runFromWith
   called-from zero room t = tt
   called-from (suc k) room t = go (λ m u. called-from k m u) (step s shift limit t .what) refl
     where
@@ -109,7 +109,7 @@ module _ (s : List ℕ) (shift limit : ℕ) where
 module _ (s : List ℕ) (shift limit room : ℕ) (t : Tokenizer) where
   pub of-run : (P : List Token → Type 0) → P [] → (Allowed s shift → boundary s (t .at) ≡ true → Called s shift (t .at) (run s shift limit room t .tokens) → P (run s shift limit room t .tokens))
       → P (wholeRun s shift limit room t .tokens)
-  unfolding wholeRun run
+  unfolding wholeRunWith runWith
   of-run P none some = go (checks s shift) (boundary s (t .at)) refl refl
     where
       go : (c : Checked) (b : Bool) → checks s shift ≡ c → boundary s (t .at) ≡ b → P (runIf c s shift limit room t .tokens)
@@ -147,7 +147,7 @@ module _ (s : List ℕ) (at : ℕ) (t : Token) (got : next (left s at) at .what 
 
 -- of the public single call
 pub moves : (s : List ℕ) (shift limit : ℕ) (t : Tokenizer) (y : Token) → nextToken s shift limit t .what ≡ Got y → t .at < nextToken s shift limit t .next .at
-unfolding nextToken
+unfolding nextTokenWith
 moves s shift limit t y e = go (checks s shift) (boundary s (t .at)) refl refl
   where
     go : (c : Checked) (b : Bool) → checks s shift ≡ c → boundary s (t .at) ≡ b → t .at < stepIf (checks s shift) s shift limit t .next .at
@@ -217,7 +217,7 @@ at-most s shift limit room = let h = at-most-left s shift limit room startState 
 module _ (s : List ℕ) (shift limit : ℕ) (list-before list-after : List Token) (t : Tokenizer) (r : Ran) where
   pub found : (r ≡ ranOf s shift limit (length list-before) t) × (list-after ≡ over (wholeRun s shift limit (length list-before) t .tokens) list-before)
       → take (r .stored) list-after ≡ wholeRun s shift limit (length list-before) t .tokens
-  unfolding ranOf
+  unfolding ranWith
   found h =
       let n : r .stored ≡ length (wholeRun s shift limit (length list-before) t .tokens) = ap (λ (x : Ran). x .stored) (h .0) in
       rw (h .1) (take-at (wholeRun s shift limit (length list-before) t .tokens) _ (r .stored) (sym n))

@@ -16,54 +16,59 @@ use Rattle.record.specs.Records.{refusal}
 use Rattle.record.specs.declared.Checked.{Checked}
 use Rattle.record.specs.declared.Checked.the-variants.{Passed, Refused as Stopped}
 use Rattle.record.specs.declared.Code.{Code}
-use Rattle.record.specs.declared.Code.the-variants.{BadRecord}
+use Rattle.record.specs.declared.Code.the-variants.{BadRecord, NotUtf8, ShiftTooLarge, TooLong}
 use Rattle.record.specs.declared.Refusal.{Refusal}
 use Rattle.reading.specs.Answers.{startState}
 use Rattle.reading.specs.Ledger.{advances-at-end, advances-bounded, stops, tiled-at-end}
 use Rattle.reading.specs.Measures.{Tiled, attempts, hashes, marks}
-use Rattle.reading.specs.Run.{Run, run, stopped}
+use Rattle.reading.specs.Run.{Run, run, runWith, stopped}
 use Rattle.reading.specs.declared.Outcome.the-variants.{Ended, Refused, Running}
-use Rattle.run.specs.Checked.{countIf, runIf, wholeRun}
+use Rattle.run.specs.Checked.{countIf, runIf, wholeRun, wholeRunWith}
 use Rattle.ledger.specs.Codes.{isError}
 use Rattle.ledger.specs.Spent.{finalCall, spent, spent-run}
 
--- ---- what the checks refuse is no error of the reading
-abbrev OtherIn : Checked → Type 0
-OtherIn Passed = Unit {0}
-OtherIn (Stopped r) = isError (r .code) ≡ false
+-- ---- the checks refuse for 12, 13 and 11: what holds of these codes holds of every refusal of theirs
+abbrev pub RefusesIn : (Code → Type 0) → Checked → Type 0
+RefusesIn Q Passed = Unit {0}
+RefusesIn Q (Stopped r) = Q (r .code)
 
-record Other (x : Checked) : Type 0 where
-  is : OtherIn x
+pub record Refuses (Q : Code → Type 0) (x : Checked) : Type 0 where
+  pub is : RefusesIn Q x
 
-other-test : (t : Bool) (x y : Checked) → Other x → Other y → Other (cond t x y)
-other-test true x y p q = p
-other-test false x y p q = q
+module _ (Q : Code → Type 0) where
+  refuses-test : (t : Bool) (x y : Checked) → Refuses Q x → Refuses Q y → Refuses Q (cond t x y)
+  refuses-test true x y p q = p
+  refuses-test false x y p q = q
 
-other-stop : (code : Code) (place : ℕ) → isError code ≡ false → Other (Stopped (refusal code place))
-other-stop code place e = record { is = e }
+  refuses-stop : (code : Code) (place : ℕ) → Q code → Refuses Q (Stopped (refusal code place))
+  refuses-stop code place e = record { is = e }
 
-other-text : (shift : ℕ) (v : Utf8) → Other (checkUtf8 shift v)
-other-text shift Valid = record { is = tt }
-other-text shift (Bad p) = record { is = refl }
+  refuses-text : (shift : ℕ) (v : Utf8) → Q NotUtf8 → Refuses Q (checkUtf8 shift v)
+  refuses-text shift Valid e = record { is = tt }
+  refuses-text shift (Bad p) e = record { is = e }
 
-checks-other : (s : List ℕ) (shift : ℕ) → Other (checks s shift)
-unfolding checks
-checks-other s shift =
-    other-test (ltb textLimit (length s)) _ _ (other-stop _ 0 refl)
-    (other-test (ltb shiftLimit (shift + length s)) _ _ (other-stop _ 0 refl) (other-text shift (verdict s)))
+  pub checks-refuse : Q TooLong → Q ShiftTooLarge → Q NotUtf8 → (s : List ℕ) (shift : ℕ) → Refuses Q (checks s shift)
+  unfolding checks
+  checks-refuse long large text s shift =
+      refuses-test (ltb textLimit (length s)) _ _ (refuses-stop _ 0 long)
+      (refuses-test (ltb shiftLimit (shift + length s)) _ _ (refuses-stop _ 0 large) (refuses-text shift (verdict s) text))
+
+-- none of them is an error of the reading
+pub checks-other : (s : List ℕ) (shift : ℕ) → Refuses (λ (c : Code). isError c ≡ false) (checks s shift)
+checks-other s shift = checks-refuse (λ c. isError c ≡ false) refl refl refl s shift
 
 module _ (s : List ℕ) (shift limit room : ℕ) where
   -- a run that is read, or one that is refused before any reading
   whole-by : (P : Checked → Run → Type 0) → (checks s shift ≡ Passed → P Passed (run s shift limit room startState))
       → ((c : Checked) (z : Refusal) → isError (z .code) ≡ false → P c (stopped (Refused z) startState)) → P (checks s shift) (wholeRun s shift limit room startState)
-  unfolding wholeRun
+  unfolding wholeRunWith
   whole-by P f g = go (checks s shift) refl (checks-other s shift)
     where
       by : (b : Bool) → checks s shift ≡ Passed → P Passed (cond b (run s shift limit room startState) (stopped (Refused (refusal BadRecord 0)) startState))
       by true e = f e
       by false e = g Passed (refusal BadRecord 0) refl
 
-      go : (c : Checked) → checks s shift ≡ c → Other (checks s shift) → P c (runIf c s shift limit room startState)
+      go : (c : Checked) → checks s shift ≡ c → Refuses (λ (c : Code). isError c ≡ false) (checks s shift) → P c (runIf c s shift limit room startState)
       go Passed e h = by (boundary s 0) e
       go (Stopped r) e h = g (Stopped r) r (rw e at h .is)
 
@@ -105,7 +110,7 @@ module _ (s : List ℕ) (shift limit room : ℕ) where
   Counts c r = countIf c (r .state .count) ≡ spent s (length (r .tokens) + finalCall (r .how)) 0
 
   read-counts : Counts Passed (run s shift limit room startState)
-  unfolding run
+  unfolding runWith
   read-counts = let h = spent-run s shift limit (suc (length s)) room startState refl in omega (arith, h)
 
   none-counts : (c : Checked) (z : Refusal) → isError (z .code) ≡ false → Counts c (stopped (Refused z) startState)

@@ -11,7 +11,7 @@ use Rattle.record.specs.declared.Code.the-variants.{NoRoom, WorkLimit}
 use Rattle.record.specs.declared.Token.{Token}
 use Rattle.scan.specs.Until.{left}
 use Rattle.reading.specs.Next.{next}
-use Rattle.reading.specs.Run.{Run, also, doneBy, runFrom, shiftToken, shiftWhat, step, stopped}
+use Rattle.reading.specs.Run.{Run, also, doneBy, runFrom, runFromWith, shiftToken, shiftWhat, step, stopped}
 use Rattle.reading.specs.Story.{call, run-end, run-error, run-full, run-got, step-on, step-over}
 use Rattle.reading.specs.declared.Outcome.{Outcome}
 use Rattle.reading.specs.declared.Outcome.the-variants.{Ended, Refused, Running}
@@ -98,6 +98,6 @@ module _ (s : List ℕ) (shift limit : ℕ) where
       by false q = on q (call s shift limit t .what) refl ((next-errs (left s (t .at)) (t .at)) .is)
 
   pub spent-run : (k room : ℕ) (t : Tokenizer) → t .done ≡ Running → Spends s t (runFrom s shift limit k room t)
-  unfolding runFrom
+  unfolding runFromWith
   spent-run zero room t d = none s t Running refl
   spent-run (suc k) room t d = spent-suc k room t d (λ m u. spent-run k m u)

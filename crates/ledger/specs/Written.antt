@@ -20,7 +20,7 @@ use Rattle.scan.specs.Far.{fits}
 use Rattle.scan.specs.Until.{left}
 use Rattle.reading.specs.Run.{run}
 use Rattle.reading.specs.declared.Tokenizer.{Tokenizer}
-use Rattle.run.specs.Checked.{ranOf, wholeRun}
+use Rattle.run.specs.Checked.{ranOf, ranWith, wholeRun}
 use Rattle.run.specs.Numbers.{groupSize, numbersAll, numbersOf}
 use Rattle.run.specs.declared.Ran.{Ran}
 use Rattle.ltk.specs.Faithful.{passing-answer}
@@ -117,7 +117,7 @@ entries-from front i (t ∷ ts) e = rw (here, more (entries-from (front ++ numbe
         → listed (entryIn (front ++ (numbersOf t ++ numbersAll ts))) (i + 1) (length ts) ≡ map entryOf ts
     more h = ap (λ (xs : List ℕ). listed (entryIn xs) (i + 1) (length ts)) (sym (append-assoc front (numbersOf t) (numbersAll ts))) ∙ h
 
-entries-are : (ts : List Token) → entriesIn (numbersAll ts) ≡ map entryOf ts
+pub entries-are : (ts : List Token) → entriesIn (numbersAll ts) ≡ map entryOf ts
 entries-are ts =
     let n : length (numbersAll ts) / groupSize ≡ length ts = omega (arith, numbers-length ts) in
     rw n (entries-from [] 0 ts refl)
@@ -130,7 +130,7 @@ module _ (s : List ℕ) (limit : ℕ) (list-before list-after : List ℕ) (t : T
   stored-tokens = wholeRun s 0 limit (length list-before / groupSize) t .tokens
 
   found-numbers : take (groupSize * r .stored) list-after ≡ numbersAll stored-tokens
-  unfolding ranOf
+  unfolding ranWith
   found-numbers =
       let n : r .stored ≡ length stored-tokens = ap (λ (x : Ran). x .stored) (ran-is .0) in
       rw (ran-is .1) (take-at (numbersAll stored-tokens) _ (groupSize * r .stored) (omega (arith, numbers-length stored-tokens)))

@@ -1,0 +1,177 @@
+-- WHICH CODES COME OUT. Of the reading only 1, 2, 5, 6, 8, 9 and 10: so 3, 4 and 7, 16 to 20 and all above never come out of a call or a run.
+use Prim.Native.Nat.{ℕ}
+use native.Mathlib.Omega.{arith}
+use mathlib.Core.Bool.{Bool, _&&_, false, not, true}
+use mathlib.Core.List.{List, [], _∷_}
+use mathlib.Core.Path.{_≡_, refl, sym, _∙_}
+use lib.Dec.{eqb}
+use lib.ListN.{length}
+use borrow.Author.Tests.{eqb-true}
+use Rattle.utf8.specs.Laws.{both}
+use Rattle.record.specs.Checks.{checks}
+use Rattle.record.specs.Numbers.{codeNumber}
+use Rattle.record.specs.declared.Code.{Code}
+use Rattle.record.specs.declared.Code.the-variants.{NoRoom}
+use Rattle.record.specs.declared.Refusal.{Refusal}
+use Rattle.record.specs.declared.Token.{Token}
+use Rattle.scan.specs.Until.{left}
+use Rattle.reading.specs.Next.{next}
+use Rattle.reading.specs.Run.{doneBy, shiftWhat}
+use Rattle.reading.specs.declared.Outcome.{Outcome}
+use Rattle.reading.specs.declared.Outcome.the-variants.{Ended, Refused, Running}
+use Rattle.reading.specs.declared.Tokenizer.{Tokenizer}
+use Rattle.reading.specs.declared.What.{What}
+use Rattle.reading.specs.declared.What.the-variants.{End, Error, Got}
+use Rattle.run.specs.Checked.{nextToken}
+use Rattle.run.specs.declared.Ran.{Ran}
+use Rattle.ledger.specs.Answered.{SaysIn, among, next-says}
+use Rattle.ledger.specs.Books.{held}
+use Rattle.ledger.specs.Runs.{Refuses, checks-refuse}
+use Rattle.callers.specs.Contracts.{Kept, Nexts, RunsFrom}
+use Rattle.callers.specs.Cursors.{by-kept, kept-boundary, reached-kept}
+use Rattle.callers.specs.Single.{Single, callOf, end-kept, error-kept, limited, off, read, refused, single}
+use Rattle.callers.specs.Repeated.{Last, answers, full, repeated}
+
+-- the codes of the reading
+abbrev pub readingCodes : List ℕ
+readingCodes = 1 ∷ 2 ∷ 5 ∷ 6 ∷ 8 ∷ 9 ∷ 10 ∷ []
+
+-- the codes of a single call, and of a run
+abbrev pub callCodes : List ℕ
+callCodes = 1 ∷ 2 ∷ 5 ∷ 6 ∷ 8 ∷ 9 ∷ 10 ∷ 11 ∷ 12 ∷ 13 ∷ 15 ∷ []
+
+abbrev pub runCodes : List ℕ
+runCodes = 1 ∷ 2 ∷ 5 ∷ 6 ∷ 8 ∷ 9 ∷ 10 ∷ 11 ∷ 12 ∷ 13 ∷ 14 ∷ 15 ∷ []
+
+abbrev pub OneOf : List ℕ → Code → Type 0
+OneOf ns c = among (codeNumber c) ns ≡ true
+
+-- ---- a test that each number of a list passes is passed by one that is among them
+unfoldable pub each : (ℕ → Bool) → List ℕ → Bool
+each test [] = true
+each test (n ∷ ns) = test n && each test ns
+
+pub one-of : (test : ℕ → Bool) (n : ℕ) (ns : List ℕ) → each test ns ≡ true → among n ns ≡ true → test n ≡ true
+unfolding among each
+one-of test n [] h e = let w : _≡_ {A = ℕ} 0 1 = cc in absurd (omega arith)
+one-of test n (m ∷ ns) h e = let b = both (test m) (each test ns) h in go (eqb n m) refl (b .0) (λ w. one-of test n ns (b .1) w)
+  where
+    go : (b : Bool) → eqb n m ≡ b → test m ≡ true → (among n ns ≡ true → test n ≡ true) → test n ≡ true
+    go true q p f = rw (eqb-true n m q) p
+    go false q p f = f (rw q at e)
+
+-- ---- how a tokenizer that a caller has can be done: it runs, or keeps the end or a code of the reading
+abbrev pub DoneBy : Outcome → Type 0
+DoneBy Running = Unit {0}
+DoneBy Ended = Unit {0}
+DoneBy (Refused r) = OneOf readingCodes (r .code)
+
+-- of a call of the reading
+reads : (cs : List ℕ) (at : ℕ) → SaysIn (λ (t : Token). Unit {0}) (OneOf readingCodes) (next cs at .what)
+unfolding among
+reads cs at = (next-says (λ t. Unit {0}) (OneOf readingCodes) (λ kind o p h. tt) (λ kind o p from to h s. tt) refl refl refl refl refl refl refl (λ o p from to. tt) cs at) .is
+
+done-by : (shift : ℕ) (w : What) → SaysIn (λ (t : Token). Unit {0}) (OneOf readingCodes) w → DoneBy (doneBy (shiftWhat shift w))
+done-by shift (Got t) h = tt
+done-by shift (Error r) h = h
+done-by shift End h = tt
+
+next-holds : (s : List ℕ) (shift limit : ℕ) (t : Tokenizer) → DoneBy (t .done) → DoneBy (nextToken s shift limit t .next .done)
+next-holds s shift limit t h = go (single s shift limit t)
+  where
+    go : Single s shift limit t (nextToken s shift limit t) → DoneBy (nextToken s shift limit t .next .done)
+    go (refused z c e) = rw e h
+    go (off c n e) = rw e h
+    go (error-kept z k e) = rw e h
+    go (end-kept k e) = rw e h
+    go (limited k l e) = rw e h
+    go (read k l e) = rw e (done-by shift (callOf s t .what) (reads (left s (t .at)) (t .at)))
+
+-- so where no code of the reading is among these, none of them is read
+abbrev pub Apart : List ℕ → Type 0
+Apart ns = each (λ (n : ℕ). not (among n ns)) readingCodes ≡ true
+
+pub not-reading : (ns : List ℕ) → Apart ns → (c : Code) → OneOf readingCodes c → OneOf ns c → ⊥
+not-reading ns a c h e =
+    let w : not (among (codeNumber c) ns) ≡ true = one-of (λ n. not (among n ns)) (codeNumber c) readingCodes a h in
+    let z : false ≡ true = rw e at w in
+    let q : _≡_ {A = ℕ} 0 1 = cc in
+    omega arith
+
+-- nor does a call of the reading answer one
+said-not : (ns : List ℕ) → Apart ns → (shift : ℕ) (w : What) (z : Refusal) → SaysIn (λ (t : Token). Unit {0}) (OneOf readingCodes) w → shiftWhat shift w ≡ Error z → OneOf ns (z .code) → ⊥
+said-not ns a shift (Got t) z h e o = let q : _≡_ {A = ℕ} 0 1 = cc in omega arith
+said-not ns a shift (Error r) z h e o = let q : z .code ≡ r .code = cc in not-reading ns a (r .code) h (rw q at o)
+said-not ns a shift End z h e o = let q : _≡_ {A = ℕ} 0 1 = cc in omega arith
+
+pub read-not : (ns : List ℕ) → Apart ns → (s : List ℕ) (shift : ℕ) (t : Tokenizer) (z : Refusal) → shiftWhat shift (callOf s t .what) ≡ Error z → OneOf ns (z .code) → ⊥
+read-not ns a s shift t z e o = said-not ns a shift (callOf s t .what) z (reads (left s (t .at)) (t .at)) e o
+
+-- every tokenizer that a caller has is done so
+pub kept-done : (s : List ℕ) {t : Tokenizer} → Kept s t → DoneBy (t .done)
+kept-done s d = by-kept s (λ u. DoneBy (u .done)) (next-holds s) tt d
+
+-- ---- so a call answers one of these
+abbrev Said : List ℕ → What → Type 0
+Said ns w = SaysIn (λ (t : Token). Unit {0}) (OneOf ns) w
+
+wider : (c : Code) → OneOf readingCodes c → OneOf callCodes c
+unfolding among each
+wider c h = one-of (λ n. among n callCodes) (codeNumber c) readingCodes refl h
+
+shift-said : (shift : ℕ) (w : What) → Said readingCodes w → Said callCodes (shiftWhat shift w)
+shift-said shift (Got t) h = tt
+shift-said shift (Error r) h = wider (r .code) h
+shift-said shift End h = tt
+
+module _ (s : List ℕ) (shift limit : ℕ) (t : Tokenizer) (k : Kept s t) where
+  next-said : Said callCodes (nextToken s shift limit t .what)
+  unfolding among
+  next-said = go (single s shift limit t) (checks-refuse (OneOf callCodes) refl refl refl s shift) (kept-done s k)
+    where
+      go : Single s shift limit t (nextToken s shift limit t) → Refuses (OneOf callCodes) (checks s shift) → DoneBy (t .done) → Said callCodes (nextToken s shift limit t .what)
+      go (refused z c e) h d = rw e (rw c at (h .is))
+      go (off c n e) h d = let w : false ≡ true = sym n ∙ kept-boundary s shift k c in let q : _≡_ {A = ℕ} 0 1 = cc in absurd (omega arith)
+      go (error-kept z u e) h d = rw e (wider (z .code) (rw (u .is) at d))
+      go (end-kept u e) h d = rw e tt
+      go (limited u l e) h d = rw e refl
+      go (read u l e) h d = rw e (shift-said shift (callOf s t .what) (reads (left s (t .at)) (t .at)))
+
+  -- THE THEOREMS, of every tokenizer that a caller has. A single call refuses for one of these: so not for 3, 4, 7, 14, 16 to 20 or above
+  pub next-codes : (z : Refusal) (u : Tokenizer) → Nexts s shift limit t (Error z) u → among (codeNumber (z .code)) callCodes ≡ true
+  next-codes z u c = let h : Said callCodes (Error z) = rw (← (c .0)) at next-said in h
+
+run-said : (u : What) (how : Outcome) (z : Refusal) → how ≡ doneBy u → how ≡ Refused z → Said callCodes u → OneOf callCodes (z .code)
+run-said (Got y) how z h e w = let q : _≡_ {A = ℕ} 0 1 = cc in absurd (omega arith)
+run-said (Error x) how z h e w = let q : x ≡ z = cc in rw q at w
+run-said End how z h e w = let q : _≡_ {A = ℕ} 0 1 = cc in absurd (omega arith)
+
+-- a run refuses for one of those or for 14
+pub run-codes : (s : List ℕ) (shift limit : ℕ) (t : Tokenizer) (before : List Token) (r : Ran) (after : List Token) → Kept s t → RunsFrom s shift limit t before r after
+    → (z : Refusal) → r .how ≡ Refused z → among (codeNumber (z .code)) runCodes ≡ true
+unfolding among each
+run-codes s shift limit t before r after k c z e = let d = repeated s shift limit t before r after c in go (d .reached) (reached-kept s shift limit (d .calls) k) (d .last)
+  where
+    go : (u : Tokenizer) → Kept s u → Last s shift limit (length before) u (length (held r after)) (r .how) (r .state) → OneOf runCodes (z .code)
+    go u k′ (full y g l h q) = let w : z .code ≡ NoRoom = cc in rw w refl
+    go u k′ (answers f h q) =
+        let w = run-said (nextToken s shift limit u .what) (r .how) z h e (next-said s shift limit u k′) in
+        one-of (λ n. among n runCodes) (codeNumber (z .code)) callCodes refl w
+
+-- ---- so 3, 4 and 7 never come out of a call or a run; nor 16 to 20, which are expansion's, the LTK file's and a cursor's off a boundary; nor 21 to 29
+abbrev pub neverCodes : List ℕ
+neverCodes = 3 ∷ 4 ∷ 7 ∷ 16 ∷ 17 ∷ 18 ∷ 19 ∷ 20 ∷ 21 ∷ 22 ∷ 23 ∷ 24 ∷ 25 ∷ 26 ∷ 27 ∷ 28 ∷ 29 ∷ []
+
+not-true : (b : Bool) → not b ≡ true → b ≡ false
+not-true true e = sym e
+not-true false e = refl
+
+pub next-never : (s : List ℕ) (shift limit : ℕ) (t : Tokenizer) → Kept s t → (z : Refusal) (u : Tokenizer) → Nexts s shift limit t (Error z) u → among (codeNumber (z .code)) (14 ∷ neverCodes) ≡ false
+unfolding among each
+next-never s shift limit t k z u c = not-true _ (one-of (λ n. not (among n (14 ∷ neverCodes))) (codeNumber (z .code)) callCodes refl (next-codes s shift limit t k z u c))
+
+pub run-never : (s : List ℕ) (shift limit : ℕ) (t : Tokenizer) (before : List Token) (r : Ran) (after : List Token) → Kept s t → RunsFrom s shift limit t before r after
+    → (z : Refusal) → r .how ≡ Refused z → among (codeNumber (z .code)) neverCodes ≡ false
+unfolding among each
+run-never s shift limit t before r after k c z e =
+    not-true _ (one-of (λ n. not (among n neverCodes)) (codeNumber (z .code)) runCodes refl (run-codes s shift limit t before r after k c z e))

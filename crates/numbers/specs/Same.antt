@@ -1,0 +1,119 @@
+-- Nothing is lost by the numbers: no two answers have the same.
+use native.Mathlib.Omega.{arith}
+use mathlib.Core.Path.{_≡_, refl, sym, ap, _∙_}
+use Rattle.record.specs.Numbers.{code-again, codeNumber, codeOf, codes, kind-again, kindNumber, kindOf}
+use Rattle.record.specs.declared.Checked.{Checked}
+use Rattle.record.specs.declared.Checked.the-variants.{Passed, Refused as Stopped}
+use Rattle.record.specs.declared.Code.{Code}
+use Rattle.record.specs.declared.Code.the-variants.{UnrecognizedToken}
+use Rattle.record.specs.declared.Kind.{Kind}
+use Rattle.record.specs.declared.Known.{Known}
+use Rattle.record.specs.declared.Known.the-variants.{Kind as AKind, Nothing as Unknown}
+use Rattle.record.specs.declared.Refusal.{Refusal}
+use Rattle.record.specs.declared.Token.{Token}
+use Rattle.reading.specs.declared.Outcome.{Outcome}
+use Rattle.reading.specs.declared.Outcome.the-variants.{Ended, Refused, Running}
+use Rattle.reading.specs.declared.What.{What}
+use Rattle.reading.specs.declared.What.the-variants.{End, Error, Got}
+use Rattle.run.specs.Numbers.{numbersOf}
+use Rattle.escapes.specs.declared.Expanded.{Expanded}
+use Rattle.escapes.specs.declared.Expanded.the-variants.{Part as APart, Refused as NotExpanded}
+use Rattle.escapes.specs.declared.Held.{Held}
+use Rattle.escapes.specs.declared.Held.the-variants.{Buffer, Text}
+use Rattle.ltk.specs.declared.Answer.{Answer}
+use Rattle.ltk.specs.declared.Answer.the-variants.{Done, Refused as NotDone}
+use Rattle.ltk.specs.declared.Found.{Found}
+use Rattle.ltk.specs.declared.Found.the-variants.{Nothing, Record}
+use Rattle.numbers.specs.Values.{answerNumbers, checkedNumbers, expandedNumbers, foundNumbers, heldNumber, knownNumbers, outcomeNumbers, whatNumbers}
+
+-- ---- codes, kinds, refusals and tokens
+pub code-same : (c d : Code) → codeNumber c ≡ codeNumber d → c ≡ d
+code-same c d e = sym (code-again c) ∙ ap codeOf e ∙ code-again d
+
+-- no refusal has the number 0
+pub code-some : (c : Code) → codeNumber c ≡ 0 → ⊥
+unfolding codeOf codes
+code-some c e =
+    let u : c ≡ UnrecognizedToken = sym (code-again c) ∙ ap codeOf e in
+    let k : codeNumber c ≡ 1 = ap (λ (d : Code). codeNumber d) u in
+    omega arith
+
+pub kind-same : (j k : Kind) → kindNumber j ≡ kindNumber k → j ≡ k
+kind-same j k e = let h : AKind j ≡ AKind k = sym (kind-again j) ∙ ap kindOf e ∙ kind-again k in cc
+
+pub refusal-same : (q r : Refusal) → codeNumber (q .code) ≡ codeNumber (r .code) → q .place ≡ r .place → q ≡ r
+refusal-same q r c p = let h = code-same (q .code) (r .code) c in rw (h, p)
+
+pub token-same : (t u : Token) → numbersOf t ≡ numbersOf u → t ≡ u
+token-same t u e =
+    let k : kindNumber (t .kind) ≡ kindNumber (u .kind) = cc in
+    let a : t .kind ≡ u .kind = kind-same (t .kind) (u .kind) k in
+    let b : t .start ≡ u .start = cc in
+    let c : t .end ≡ u .end = cc in
+    let d : t .«payload_start» ≡ u .«payload_start» = cc in
+    let f : t .«payload_end» ≡ u .«payload_end» = cc in
+    rw (a, b, c, d, f)
+
+held-same : (a b : Held) → heldNumber a ≡ heldNumber b → a ≡ b
+held-same Text Text e = refl
+held-same Buffer Buffer e = refl
+held-same Text Buffer e = absurd (omega arith)
+held-same Buffer Text e = absurd (omega arith)
+
+-- ---- THE THEOREMS, of each enum
+pub what-same : (a b : What) → whatNumbers a ≡ whatNumbers b → a ≡ b
+what-same (Got t) (Got u) e = let h : numbersOf t ≡ numbersOf u = cc in ap Got (token-same t u h)
+what-same (Got t) (Error r) e = cc
+what-same (Got t) End e = cc
+what-same (Error r) (Got t) e = cc
+what-same (Error q) (Error r) e = ap Error (refusal-same q r (cc) (cc))
+what-same (Error r) End e = let h : codeNumber (r .code) ≡ 0 = cc in absurd (code-some (r .code) h)
+what-same End (Got t) e = cc
+what-same End (Error r) e = let h : codeNumber (r .code) ≡ 0 = cc in absurd (code-some (r .code) h)
+what-same End End e = refl
+
+-- Running, too, differs from the rest
+pub outcome-same : (a b : Outcome) → outcomeNumbers a ≡ outcomeNumbers b → a ≡ b
+outcome-same Running Running e = refl
+outcome-same Running Ended e = cc
+outcome-same Running (Refused r) e = cc
+outcome-same Ended Running e = cc
+outcome-same Ended Ended e = refl
+outcome-same Ended (Refused r) e = let h : codeNumber (r .code) ≡ 0 = cc in absurd (code-some (r .code) h)
+outcome-same (Refused r) Running e = cc
+outcome-same (Refused r) Ended e = let h : codeNumber (r .code) ≡ 0 = cc in absurd (code-some (r .code) h)
+outcome-same (Refused q) (Refused r) e = ap Refused (refusal-same q r (cc) (cc))
+
+pub checked-same : (a b : Checked) → checkedNumbers a ≡ checkedNumbers b → a ≡ b
+checked-same Passed Passed e = refl
+checked-same Passed (Stopped r) e = let h : codeNumber (r .code) ≡ 0 = cc in absurd (code-some (r .code) h)
+checked-same (Stopped r) Passed e = let h : codeNumber (r .code) ≡ 0 = cc in absurd (code-some (r .code) h)
+checked-same (Stopped q) (Stopped r) e = ap Stopped (refusal-same q r (cc) (cc))
+
+pub known-same : (a b : Known) → knownNumbers a ≡ knownNumbers b → a ≡ b
+known-same (AKind j) (AKind k) e = ap AKind (kind-same j k (cc))
+known-same (AKind j) Unknown e = cc
+known-same Unknown (AKind k) e = cc
+known-same Unknown Unknown e = refl
+
+pub expanded-same : (a b : Expanded) → expandedNumbers a ≡ expandedNumbers b → a ≡ b
+expanded-same (APart p) (APart q) e =
+    let h : p .held ≡ q .held = held-same (p .held) (q .held) (cc) in
+    let i : p .start ≡ q .start = cc in
+    let j : p .end ≡ q .end = cc in
+    ap APart (rw (h, i, j))
+expanded-same (APart p) (NotExpanded r) e = let h : codeNumber (r .code) ≡ 0 = cc in absurd (code-some (r .code) h)
+expanded-same (NotExpanded r) (APart p) e = let h : codeNumber (r .code) ≡ 0 = cc in absurd (code-some (r .code) h)
+expanded-same (NotExpanded q) (NotExpanded r) e = ap NotExpanded (refusal-same q r (cc) (cc))
+
+pub answer-same : (a b : Answer) → answerNumbers a ≡ answerNumbers b → a ≡ b
+answer-same (Done n) (Done m) e = ap Done (cc)
+answer-same (Done n) (NotDone r) e = let h : codeNumber (r .code) ≡ 0 = cc in absurd (code-some (r .code) h)
+answer-same (NotDone r) (Done m) e = let h : codeNumber (r .code) ≡ 0 = cc in absurd (code-some (r .code) h)
+answer-same (NotDone q) (NotDone r) e = ap NotDone (refusal-same q r (cc) (cc))
+
+pub found-same : (a b : Found) → foundNumbers a ≡ foundNumbers b → a ≡ b
+found-same (Record t) (Record u) e = ap Record (token-same t u e)
+found-same (Record t) Nothing e = cc
+found-same Nothing (Record u) e = cc
+found-same Nothing Nothing e = refl

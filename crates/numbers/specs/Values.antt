@@ -1,0 +1,73 @@
+-- THE NUMBERS OF EVERY ANSWER. 01: "When an answer is an enum, a definition gives this paper's number and values for each enum case. The promises use
+-- this definition." Here for each enum that a public function answers. Where it can refuse, the first number is the refusal's number in 01's table, 0
+-- where nothing is refused; the second is its place, 0 where nothing is refused; then come the values. Where nothing is answered there are no numbers.
+use Prim.Native.Nat.{ℕ}
+use mathlib.Core.List.{List, [], _∷_, _++_}
+use Rattle.record.specs.Numbers.{codeNumber, kindNumber}
+use Rattle.record.specs.declared.Checked.{Checked}
+use Rattle.record.specs.declared.Checked.the-variants.{Passed, Refused as Stopped}
+use Rattle.record.specs.declared.Known.{Known}
+use Rattle.record.specs.declared.Known.the-variants.{Kind as AKind, Nothing as Unknown}
+use Rattle.record.specs.declared.Refusal.{Refusal}
+use Rattle.reading.specs.declared.Outcome.{Outcome}
+use Rattle.reading.specs.declared.Outcome.the-variants.{Ended, Refused, Running}
+use Rattle.reading.specs.declared.What.{What}
+use Rattle.reading.specs.declared.What.the-variants.{End, Error, Got}
+use Rattle.run.specs.Numbers.{numbersOf}
+use Rattle.escapes.specs.declared.Expanded.{Expanded}
+use Rattle.escapes.specs.declared.Expanded.the-variants.{Part as APart, Refused as NotExpanded}
+use Rattle.escapes.specs.declared.Held.{Held}
+use Rattle.escapes.specs.declared.Held.the-variants.{Buffer, Text}
+use Rattle.ltk.specs.declared.Answer.{Answer}
+use Rattle.ltk.specs.declared.Answer.the-variants.{Done, Refused as NotDone}
+use Rattle.ltk.specs.declared.Found.{Found}
+use Rattle.ltk.specs.declared.Found.the-variants.{Nothing, Record}
+
+-- 01: "A refusal is a record of its code and its place."
+abbrev pub refusalNumbers : Refusal → List ℕ
+refusalNumbers r = codeNumber (r .code) ∷ r .place ∷ []
+
+-- nothing is refused
+abbrev pub noRefusal : List ℕ
+noRefusal = 0 ∷ 0 ∷ []
+
+-- `reading::What`, a call's answer: a token by its "kind, start, end, payload start, payload end", a refusal, or the end
+abbrev pub whatNumbers : What → List ℕ
+whatNumbers (Got t) = noRefusal ++ numbersOf t
+whatNumbers (Error r) = refusalNumbers r
+whatNumbers End = noRefusal
+
+-- `reading::Outcome`, how a run stopped: at the end or by a refusal; while it runs nothing is answered
+abbrev pub outcomeNumbers : Outcome → List ℕ
+outcomeNumbers Running = []
+outcomeNumbers Ended = noRefusal
+outcomeNumbers (Refused r) = refusalNumbers r
+
+-- `record::Checked`, a check
+abbrev pub checkedNumbers : Checked → List ℕ
+checkedNumbers Passed = noRefusal
+checkedNumbers (Stopped r) = refusalNumbers r
+
+-- `record::Known`, the kind that has a number: that number
+abbrev pub knownNumbers : Known → List ℕ
+knownNumbers (AKind k) = kindNumber k ∷ []
+knownNumbers Unknown = []
+
+-- `escapes::Expanded`, an expansion: the slice that holds it (0 the text, 1 the buffer), its start and its end
+abbrev pub heldNumber : Held → ℕ
+heldNumber Text = 0
+heldNumber Buffer = 1
+
+abbrev pub expandedNumbers : Expanded → List ℕ
+expandedNumbers (APart p) = noRefusal ++ (heldNumber (p .held) ∷ p .start ∷ p .end ∷ [])
+expandedNumbers (NotExpanded r) = refusalNumbers r ++ (0 ∷ 0 ∷ 0 ∷ [])
+
+-- `ltk::Answer`, of the LTK reader and writer: how many records were read, or bytes written
+abbrev pub answerNumbers : Answer → List ℕ
+answerNumbers (Done n) = noRefusal ++ (n ∷ [])
+answerNumbers (NotDone r) = refusalNumbers r ++ (0 ∷ [])
+
+-- `ltk::Found`, one record of a file
+abbrev pub foundNumbers : Found → List ℕ
+foundNumbers (Record t) = numbersOf t
+foundNumbers Nothing = []

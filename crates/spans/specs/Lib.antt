@@ -1,0 +1,3 @@
+-- what a reader must believe: which characters a literal and a block comment span, of the text alone
+pub mod Strings
+pub mod Comments
