@@ -1,0 +1,67 @@
+-- A listing in parts that fit a buffer: the header in the first, as many records in each, the last line in the last; after that, nothing.
+use Prim.Native.Nat.{ℕ, zero, suc, _*_, _-_, _/_}
+use mathlib.Core.Bool.{Bool, cond}
+use mathlib.Core.List.{List, [], _∷_, _++_, map}
+use lib.Dec.{eqb, ltb}
+use lib.ListN.{drop, length, take}
+use Rattle.record.specs.Numbers.{codeNumber}
+use Rattle.record.specs.declared.Code.the-variants.{TooLong}
+use Rattle.record.specs.declared.Token.{Token}
+use Rattle.reading.specs.Answers.{startState}
+use Rattle.run.specs.Checked.{ranOf, wholeRun}
+use Rattle.text.specs.Lines.{errorLine}
+use Rattle.commands.specs.Lists.{headerLines, highest, lastLine, listErr, numberLines, recordLine, room, textLimit}
+
+-- so many records stand in a part
+abbrev pub chunk : ℕ
+chunk = 8192
+
+-- the number of the last part
+abbrev pub lastPart : List Token → ℕ
+lastPart ts = length ts / chunk
+
+-- lines that part k says, and no other
+unfoldable pub onlyIn : ℕ → ℕ → List (List ℕ) → List (List ℕ)
+onlyIn k p ls = cond (eqb p k) ls []
+
+-- part p of the lines of records and of a last line
+unfoldable pub partLines : ℕ → List Token → List ℕ → List (List ℕ)
+partLines p ts last = map recordLine (take chunk (drop (chunk * p) ts)) ++ onlyIn (lastPart ts) p (last ∷ [])
+
+-- the parts before part k, one after another
+unfoldable pub firstParts : ℕ → (ℕ → List (List ℕ)) → List (List ℕ)
+firstParts zero part = []
+firstParts (suc k) part = firstParts k part ++ part k
+
+-- ---- the command `list`
+abbrev pub runTokens : List ℕ → List Token
+runTokens s = wholeRun s 0 highest room startState .tokens
+
+abbrev pub runLast : List ℕ → List ℕ
+runLast s = lastLine (ranOf s 0 highest room startState .how) (ranOf s 0 highest room startState .advances)
+
+-- a text that is too long has no records
+unfoldable pub listTokens : List ℕ → List Token
+listTokens s = cond (ltb textLimit (length s)) [] (runTokens s)
+
+unfoldable pub listLast : List ℕ → List ℕ
+listLast s = cond (ltb textLimit (length s)) (errorLine (codeNumber TooLong) 0 0) (runLast s)
+
+unfoldable pub listPart : ℕ → Bool → List ℕ → List ℕ → List (List ℕ)
+listPart p headed name s = onlyIn 0 p (headerLines headed name) ++ partLines p (listTokens s) (listLast s)
+
+-- for people, in the last part
+unfoldable pub listPartErr : ℕ → List ℕ → List ℕ → List (List ℕ)
+listPartErr p name s = onlyIn (lastPart (listTokens s)) p (listErr name s)
+
+-- whether a part follows
+unfoldable pub listMore : ℕ → List ℕ → Bool
+listMore p s = ltb p (lastPart (listTokens s))
+
+-- ---- a part of n records as the code has them: groups of five numbers
+unfoldable pub chunkLines : ℕ → ℕ → List ℕ → List (List ℕ)
+chunkLines p n l = numberLines (cond (ltb chunk (n - chunk * p)) chunk (n - chunk * p)) (drop (5 * (chunk * p)) l)
+
+-- none where there are fewer numbers than the records take
+unfoldable pub heldLines : ℕ → ℕ → List ℕ → List (List ℕ)
+heldLines p n l = cond (ltb (length l / 5) n) [] (chunkLines p n l)

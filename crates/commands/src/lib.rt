@@ -1,0 +1,204 @@
+// What the command `list` says, as bytes for standard output and, for people, for standard error: all that a program decides. The program
+// reads, calls this, and writes.
+use reading::Outcome;
+use record::Code;
+use record::Refusal;
+use text::Came;
+ghost use mathlib.Core.Path.{_≡_};
+ghost use Prim.Native.Nat.{_*_, _≤_};
+ghost use lib.ListN.{length};
+ghost use lib.Dec.{ltb};
+ghost use Rattle.record.specs.Numbers.{codeNumber};
+ghost use Rattle.text.specs.Lay.{lay, layAll};
+ghost use Rattle.text.specs.declared.Came.the-variants.{To};
+ghost use Rattle.reading.specs.Answers.{startState};
+ghost use Rattle.run.specs.Checked.{ranOf};
+ghost use Rattle.commands.specs.Lists.{Left, headerLines, highest, lastLine, limitLines, numberLines, peopleLines, refusedLines, room};
+ghost use Rattle.commands.specs.Parts.{chunkLines, heldLines, lastPart, listMore, listPart, listPartErr, onlyIn, partLines, runLast, runTokens};
+
+// 01: "reads standard input up to 32,768 bytes"
+pub const TEXT_LIMIT: usize = 32768;
+
+// The highest work limit.
+pub const HIGHEST: u64 = 18446744073709551615;
+
+// How far the bytes for the two outputs came, and whether a part follows: a listing is said in parts.
+pub struct Said {
+    pub out: Came,
+    pub err: Came,
+    pub more: bool,
+}
+
+// So many records stand in a part of a listing.
+pub const CHUNK: usize = 8192;
+
+pub fn number_of(code: Code) -> u64
+    ensures { λ r. ⌜ r ≡ codeNumber code ⌝ }
+{
+    record::code_number(code) as u64
+}
+
+// Room for the records of every text: a token takes at least one byte.
+fn blank() -> [u64; 163840]
+    ensures { λ r. ⌜ 163840 ≡ length r ⌝ }
+{
+    [0; 163840]
+}
+
+// The lines of count records, each a group of five numbers.
+fn records_onto(out: &mut [u8], from: Came, records: &[u64], count: usize) -> Came
+    requires { ⌜ 5 * count ≤ length (now records) ⌝ }
+    ensures { λ r. ⌜ (r ≡ layAll (now (out .entry)) from (numberLines count (now (records .entry))) .to) × (now (out .exit) ≡ layAll (now (out .entry)) from (numberLines count (now (records .entry))) .held) ⌝ }
+{
+    let mut came = from;
+    let mut i: usize = 0;
+    while i < count {
+        let p = 5 * i;
+        came = text::token_line(out, came, records[p], records[p + 1], records[p + 2]);
+        i += 1;
+    }
+    came
+}
+
+// The lines of a part's records, of count.
+fn chunk_onto(out: &mut [u8], from: Came, records: &[u64], count: usize, part: usize) -> Came
+    requires { ⌜ 5 * count ≤ length (now records) ⌝ }
+    ensures { λ r. ⌜ (r ≡ layAll (now (out .entry)) from (chunkLines part count (now (records .entry))) .to) × (now (out .exit) ≡ layAll (now (out .entry)) from (chunkLines part count (now (records .entry))) .held) ⌝ }
+{
+    if count / CHUNK < part {
+        return from;
+    }
+    let first = CHUNK * part;
+    let left = count - first;
+    let start = 5 * first;
+    if CHUNK < left {
+        return records_onto(out, from, &records[start..], CHUNK);
+    }
+    records_onto(out, from, &records[start..], left)
+}
+
+// The same for numbers that a caller has: no lines where there are fewer than the records take.
+pub fn part_onto(out: &mut [u8], from: Came, records: &[u64], count: usize, part: usize) -> Came
+    ensures { λ r. ⌜ (r ≡ layAll (now (out .entry)) from (heldLines part count (now (records .entry))) .to) × (now (out .exit) ≡ layAll (now (out .entry)) from (heldLines part count (now (records .entry))) .held) ⌝ }
+{
+    if records.len() / 5 < count {
+        return from;
+    }
+    chunk_onto(out, from, records, count, part)
+}
+
+// The last line of a listing.
+fn last_onto(out: &mut [u8], from: Came, how: Outcome, advances: u64) -> Came
+    ensures { λ r. ⌜ (r ≡ lay (now (out .entry)) from (lastLine how advances) .to) × (now (out .exit) ≡ lay (now (out .entry)) from (lastLine how advances) .held) ⌝ }
+{
+    match how {
+        Outcome::Refused(r) => {
+            let code = r.code;
+            text::error_line(out, from, number_of(code), r.place, advances)
+        }
+        Outcome::Ended => text::end_line(out, from, advances),
+        Outcome::Running => text::end_line(out, from, advances),
+    }
+}
+
+// For people: where a text is refused, and why.
+pub fn refused_onto(err: &mut [u8], from: Came, name: &[u8], text: &[u8], r: Refusal) -> Came
+    ensures { λ k. ⌜ (k ≡ layAll (now (err .entry)) from (refusedLines (now (name .entry)) (now (text .entry)) r) .to) × (now (err .exit) ≡ layAll (now (err .entry)) from (refusedLines (now (name .entry)) (now (text .entry)) r) .held) ⌝ }
+{
+    let code = r.code;
+    let at = place::line_column(text, r.place);
+    let named = text::put(err, from, name);
+    text::people_line(err, named, at.line, at.column, number_of(code))
+}
+
+fn people_onto(err: &mut [u8], from: Came, name: &[u8], text: &[u8], how: Outcome) -> Came
+    ensures { λ k. ⌜ (k ≡ layAll (now (err .entry)) from (peopleLines (now (name .entry)) (now (text .entry)) how) .to) × (now (err .exit) ≡ layAll (now (err .entry)) from (peopleLines (now (name .entry)) (now (text .entry)) how) .held) ⌝ }
+{
+    match how {
+        Outcome::Refused(r) => refused_onto(err, from, name, text, r),
+        Outcome::Ended => from,
+        Outcome::Running => from,
+    }
+}
+
+// For people: a file is longer than the limit.
+pub fn limit_onto(err: &mut [u8], from: Came, name: &[u8], limit: u64) -> Came
+    ensures { λ k. ⌜ (k ≡ layAll (now (err .entry)) from (limitLines (now (name .entry)) limit) .to) × (now (err .exit) ≡ layAll (now (err .entry)) from (limitLines (now (name .entry)) limit) .held) ⌝ }
+{
+    let named = text::put(err, from, name);
+    text::limit_line(err, named, number_of(Code::TooLong), limit)
+}
+
+// The line that tells whose listing follows, where several files are listed.
+pub fn header_onto(out: &mut [u8], from: Came, headed: bool, name: &[u8]) -> Came
+    ensures { λ k. ⌜ (k ≡ layAll (now (out .entry)) from (headerLines headed (now (name .entry))) .to) × (now (out .exit) ≡ layAll (now (out .entry)) from (headerLines headed (now (name .entry))) .held) ⌝ }
+{
+    if headed {
+        let named = text::put(out, from, name);
+        return text::header_line(out, named);
+    }
+    from
+}
+
+// A part of a text's listing, for a text that is not too long.
+fn run_onto(
+    part: usize,
+    out: &mut [u8],
+    from: Came,
+    err: &mut [u8],
+    name: &[u8],
+    text: &[u8],
+) -> Said
+    ensures { λ r. ⌜ Left (layAll (now (out .entry)) from (partLines part (runTokens (now (text .entry))) (runLast (now (text .entry))))) (layAll (now (err .entry)) (To 0) (onlyIn (lastPart (runTokens (now (text .entry)))) part (peopleLines (now (name .entry)) (now (text .entry)) (ranOf (now (text .entry)) 0 highest room startState .how)))) (r .out) (now (out .exit)) (r .err) (now (err .exit)) × (r .more ≡ ltb part (lastPart (runTokens (now (text .entry))))) ⌝ }
+{
+    let mut records = blank();
+    let ran = lent::run_listed(text, 0, HIGHEST, &mut records, tok::start());
+    let how = ran.how;
+    let last = ran.stored / CHUNK;
+    let lines = chunk_onto(out, from, &records, ran.stored, part);
+    if part == last {
+        let end = last_onto(out, lines, how, ran.advances);
+        let people = people_onto(err, Came::To(0), name, text, how);
+        return Said {
+            out: end,
+            err: people,
+            more: false,
+        };
+    }
+    Said {
+        out: lines,
+        err: Came::To(0),
+        more: part < last,
+    }
+}
+
+// The command `list`: a part of 01's listing of a text, under its name where several are listed.
+pub fn list(
+    part: usize,
+    headed: bool,
+    name: &[u8],
+    text: &[u8],
+    out: &mut [u8],
+    err: &mut [u8],
+) -> Said
+    ensures { λ r. ⌜ Left (layAll (now (out .entry)) (To 0) (listPart part headed (now (name .entry)) (now (text .entry)))) (layAll (now (err .entry)) (To 0) (listPartErr part (now (name .entry)) (now (text .entry)))) (r .out) (now (out .exit)) (r .err) (now (err .exit)) × (r .more ≡ listMore part (now (text .entry))) ⌝ }
+{
+    let head = header_onto(out, Came::To(0), headed & (part == 0), name);
+    if TEXT_LIMIT < text.len() {
+        if part == 0 {
+            let line = text::error_line(out, head, number_of(Code::TooLong), 0, 0);
+            let people = limit_onto(err, Came::To(0), name, TEXT_LIMIT as u64);
+            return Said {
+                out: line,
+                err: people,
+                more: false,
+            };
+        }
+        return Said {
+            out: head,
+            err: Came::To(0),
+            more: false,
+        };
+    }
+    run_onto(part, out, head, err, name, text)
+}

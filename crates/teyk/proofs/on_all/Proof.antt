@@ -1,0 +1,26 @@
+-- `teyk::on_all` is safe and ends.
+use Prim.Native.Nat.{_-_, _≤_}
+use native.Mathlib.Omega.{arith}
+use borrow.Author.Needs.{needs}
+use Rattle.teyk.proofs.on_all.Statement.{statement}
+use Rattle.teyk.proofs.on_all.Tie as tie
+
+abbrev Inv-loop : tie.InvT-loop
+Inv-loop command count i₀ i = 2 ≤ i
+
+abbrev μ-loop : tie.MeasureT-loop
+μ-loop command count i₀ i = count - i
+
+pub on-all-spec : {M : Type 1} → statement M
+on-all-spec =
+    tie.close
+    (tie.spec
+    Inv-loop
+    μ-loop
+    (λ c. omega arith)
+    (λ c κs. search needs)
+    (λ c. tt)
+    (λ c. omega arith)
+    (λ c. omega arith)
+    (λ c. omega arith)
+    (λ c. tt))
