@@ -1,6 +1,6 @@
 /* Calls each C function and compares with what include/teykonasir.h says: that the header fits the archive is proved nowhere. From the
  * repository's root, on x86-64:
- *   rt staticlib exports && cc -Iinclude beside/calls.c target/staticlib/libexports.a -o target/calls && target/calls
+ *   rt staticlib teykonasir && cc -Iinclude beside/calls.c target/staticlib/libteykonasir.a -o target/calls && target/calls
  */
 #include <stdio.h>
 #include <string.h>
@@ -37,6 +37,55 @@ static void runs(void)
     EXPECT(teyk_run(BYTES("a"), UINT64_MAX, 0, NUMBERS(records), NUMBERS(answer)) == TEYK_SHIFT_TOO_LARGE);
     records[0] = answer[0] = 77;
     EXPECT(teyk_run(BYTES("a"), 0, 9, NUMBERS(records), answer, 3) == TEYK_NO_ROOM && answer[0] == 77 && records[0] == 77);
+}
+
+/* a run with room for one record, taken up again to its end, and what each refusal leaves */
+static void resumes(void)
+{
+    uint64_t answer[4], records[5], state[5] = {0, 0, 0, 8, 9};
+    EXPECT(teyk_resume(BYTES("a b ."), 7, UINT64_MAX, NUMBERS(state), NUMBERS(records), NUMBERS(answer)) == TEYK_NO_ROOM);
+    EXPECT(told(answer, 14, 9, 1, 1) && records[1] == 7 && told(state, 1, 1, 0, 8) && state[4] == 9);
+    EXPECT(teyk_resume(BYTES("a b ."), 7, 2, NUMBERS(state), NUMBERS(records), NUMBERS(answer)) == TEYK_WORK_LIMIT);
+    EXPECT(told(answer, 15, 8, 0, 1) && told(state, 1, 1, 0, 8));
+    EXPECT(teyk_resume(BYTES("a b ."), 7, UINT64_MAX, NUMBERS(state), NUMBERS(records), NUMBERS(answer)) == TEYK_UNRECOGNIZED_TOKEN);
+    EXPECT(told(answer, 1, 11, 1, 5) && records[1] == 9 && told(state, 5, 5, 1, 11) && state[4] == 9);
+    EXPECT(teyk_resume(BYTES("a b ."), 0, 0, NUMBERS(state), NUMBERS(records), NUMBERS(answer)) == TEYK_UNRECOGNIZED_TOKEN);
+    EXPECT(told(answer, 1, 11, 0, 5) && told(state, 5, 5, 1, 11));
+    EXPECT(teyk_resume(BYTES("a"), 0, 0, NUMBERS(state), NUMBERS(records), NUMBERS(answer)) == TEYK_BAD_RECORD);
+    EXPECT(told(answer, 20, 0, 0, 5) && told(state, 5, 5, 1, 11));
+    EXPECT(teyk_resume(BYTES("\377"), 3, 0, NUMBERS(state), NUMBERS(records), NUMBERS(answer)) == TEYK_NOT_UTF8);
+    EXPECT(told(answer, 11, 3, 0, 0) && told(state, 5, 5, 1, 11));
+    state[2] = 30;
+    EXPECT(teyk_resume(BYTES("\377"), 3, 0, NUMBERS(state), NUMBERS(records), NUMBERS(answer)) == TEYK_BAD_RECORD);
+    EXPECT(told(answer, 20, 0, 0, 5) && told(state, 5, 5, 30, 11));
+    state[2] = TEYK_ENDED;
+    EXPECT(teyk_resume(BYTES("a b ."), 3, 0, NUMBERS(state), NUMBERS(records), NUMBERS(answer)) == TEYK_END);
+    EXPECT(told(answer, 0, 0, 0, 5) && told(state, 5, 5, 32, 11));
+    answer[0] = 77;
+    EXPECT(teyk_resume(BYTES("a"), 0, 9, state, 3, NUMBERS(records), NUMBERS(answer)) == TEYK_NO_ROOM && answer[0] == 77);
+    EXPECT(teyk_resume(BYTES("a"), 0, 9, NUMBERS(state), NUMBERS(records), answer, 3) == TEYK_NO_ROOM && answer[0] == 77);
+}
+
+static void names(void)
+{
+    uint64_t answer[2] = {9, 9}, most = 0;
+    uint8_t buffer[TEYK_NAME_MOST + 1];
+    memset(buffer, '.', sizeof buffer);
+    EXPECT(teyk_name_of_kind(TEYK_KIND_MACRO_ID, NUMBERS(buffer), NUMBERS(answer)) == 0 && answer[0] == 7 && answer[1] == 9);
+    EXPECT(!memcmp(buffer, "MacroId....", 11));
+    EXPECT(teyk_name_of_code(TEYK_STALE_RECORDS, NUMBERS(buffer), NUMBERS(answer)) == 0 && answer[0] == 12);
+    EXPECT(!memcmp(buffer, "StaleRecords..", 14));
+    EXPECT(teyk_name_of_kind(TEYK_KINDS, NUMBERS(buffer), NUMBERS(answer)) == TEYK_BAD_RECORD && answer[0] == 0);
+    EXPECT(teyk_name_of_code(0, NUMBERS(buffer), NUMBERS(answer)) == TEYK_BAD_RECORD && answer[0] == 0);
+    EXPECT(teyk_name_of_code(30, buffer, 0, NUMBERS(answer)) == TEYK_BAD_RECORD && answer[0] == 0);
+    EXPECT(teyk_name_of_code(TEYK_BAD_MARK, buffer, 6, NUMBERS(answer)) == TEYK_NO_ROOM && answer[0] == 0);
+    EXPECT(teyk_name_of_kind(0, NUMBERS(buffer), answer, 0) == TEYK_NO_ROOM && answer[0] == 0);
+    EXPECT(!memcmp(buffer, "StaleRecords..", 14));
+    for (uint64_t kind = 0; kind < TEYK_KINDS; kind++) {
+        EXPECT(teyk_name_of_kind(kind, buffer, TEYK_NAME_MOST, NUMBERS(answer)) == 0);
+        most = most < answer[0] ? answer[0] : most;
+    }
+    EXPECT(most == TEYK_NAME_MOST);
 }
 
 static void expansions(void)
@@ -82,6 +131,8 @@ static void files(void)
 int main(void)
 {
     runs();
+    resumes();
+    names();
     expansions();
     places();
     files();

@@ -1,7 +1,7 @@
 /* teykonasir.h: the proved tokenizer of LALRPOP grammars, for C.
  *
- * The archive target/staticlib/libexports.a is made by `rt staticlib exports`, for x86-64 Linux. It needs no other library and takes no
- * memory beyond what is lent to it and a fixed stack.
+ * The archive target/staticlib/libteykonasir.a is made by `rt staticlib teykonasir`, for x86-64 Linux. It needs memcpy of the C library and
+ * nothing else, and takes no memory beyond what is lent to it and a fixed stack.
  *
  * What every function has in common
  *   - A slice is two arguments, its pointer and its length in elements. A pointer is never NULL, not even with length 0; uint64_t
@@ -11,6 +11,12 @@
  *     function. If `answer` has fewer, the result is 14 (TEYK_NO_ROOM) and nothing at all is written. Numbers of `answer` beyond them
  *     are never written.
  *   - Nothing else is written than what is said here.
+ *   - Threads: there is no state but what is lent. Every function may be called from any number of threads at once, as long as no slice
+ *     that one call writes is used by another.
+ *   - Stack: no function calls itself. The frames of the deepest chain of calls in the archive's code take 2,464 bytes together, and 128
+ *     below the last of them may be used; 1,760 were seen used on a painted stack (both by beside/stack). Where the dynamic loader binds
+ *     memcpy only at its first call, that call takes some 3,200 more.
+ *   - Words are Unicode 15.0.0's: XID_Start, XID_Continue and White_Space.
  */
 #ifndef TEYKONASIR_H
 #define TEYKONASIR_H
@@ -22,7 +28,12 @@
 extern "C" {
 #endif
 
-/* The codes. 1 to 10 are LALRPOP's own. */
+#define TEYK_VERSION "4.0.0"
+#define TEYK_VERSION_MAJOR 4
+#define TEYK_VERSION_MINOR 0
+#define TEYK_VERSION_PATCH 0
+
+/* The codes. 1 to 10 are LALRPOP's own; nothing answers 21 to 29 yet. */
 enum teyk_code {
     TEYK_END = 0, /* nothing is refused; of a run: the end of the text */
     TEYK_UNRECOGNIZED_TOKEN = 1, /* no token starts here, or half a symbol */
@@ -44,7 +55,16 @@ enum teyk_code {
     TEYK_BAD_MARK = 17, /* LTK: the mark is wrong or cut */
     TEYK_UNKNOWN_VERSION = 18, /* LTK: the version is not 1 */
     TEYK_BAD_LENGTH = 19, /* LTK: the length does not fit the count */
-    TEYK_BAD_RECORD = 20 /* LTK: a record that no run gives */
+    TEYK_BAD_RECORD = 20, /* LTK: a record that no run gives; a state that is no tokenizer's; a number that has no name */
+    TEYK_SHEET_FULL = 21,
+    TEYK_HALF_SYMBOL = 22,
+    TEYK_STRAY_CHARACTER = 23,
+    TEYK_UNKNOWN_READING = 24,
+    TEYK_TOO_DEEP = 25,
+    TEYK_TEXT_MISMATCH = 26,
+    TEYK_CHANGE_LIST_FULL = 27,
+    TEYK_BAD_EDIT = 28,
+    TEYK_STALE_RECORDS = 29
 };
 
 /* The kinds of token, in the order of their numbers. Kinds with a payload are marked; for every other, payload start and end are start. */
@@ -105,20 +125,42 @@ enum teyk_kind {
     TEYK_KIND_SHEBANG_ATTRIBUTE = 53 /* payload: all of it */
 };
 
+/* How many kinds there are. */
+#define TEYK_KINDS 54
+
+/* The longest text, in bytes. */
+#define TEYK_TEXT_LIMIT 2147483647
+
 /* How many numbers a record has: kind, start, end, payload start, payload end. This stays five. */
 #define TEYK_RECORD 5
 
+/* How many numbers `state` has: cursor, count, done, place. */
+#define TEYK_STATE 4
+
+/* The third of them once the end was answered. While the tokenizer runs it is 0, and after an error the error's code. */
+#define TEYK_ENDED 32
+
 /* How many numbers each function tells in `answer`. */
 #define TEYK_RUN_ANSWER 4
+#define TEYK_RESUME_ANSWER 4
 #define TEYK_EXPAND_ANSWER 4
 #define TEYK_PLACE_ANSWER 2
 #define TEYK_LTK_ANSWER 3
+#define TEYK_NAME_ANSWER 1
+
+/* How many bytes the LTK file of n records has. */
+#define TEYK_LTK_SIZE(n) (9 + 9 * (n))
+
+/* No name of a kind or of a code has more bytes. */
+#define TEYK_NAME_MOST 29
 
 /* Reads a text to its end or to the first refusal.
  *
  * Each token becomes a record of five numbers in `records`: kind, start, end, payload start, payload end. Places are bytes plus `shift`.
- * The room is records_len / 5 records; numbers beyond the told number of records are not written.
- * `limit` bounds the work: the total of advances (characters passed, failed attribute attempts included).
+ * The room is records_len / 5 records; numbers beyond the told number of records are not written. Every token has a byte of its own, so
+ * a records_len of 5 x text_len always suffices.
+ * `limit` bounds the work: the total of advances (characters passed, failed attribute attempts included). Beyond it there are only the
+ * checks and the call that is given up, so the time is at most a constant times (limit + text_len).
  *
  * answer: code, place, number of records, advances. The result is the code:
  *    0         the end of the text; the place is 0
@@ -131,10 +173,31 @@ enum teyk_kind {
 uint64_t teyk_run(const uint8_t *text, size_t text_len, uint64_t shift, uint64_t limit, uint64_t *records, size_t records_len,
                   uint64_t *answer, size_t answer_len);
 
+/* Reads a text as teyk_run does, from the tokenizer that the first four numbers of `state` are, and moves that tokenizer on.
+ *
+ * state: cursor (a byte index with no shift), count (the advances so far), done (0 while it runs, 32 once the end was answered, else the
+ * code of the error that was), place of that error. The place is looked at and written only where done is a code. A run begins with
+ * four zeros, and then teyk_resume answers what teyk_run does; for any further call they are lent as they were left. Numbers beyond the
+ * four are not written.
+ * `limit` bounds the count, so it goes on over all calls. Each call checks the whole text: lend room for many records.
+ *
+ * answer: code, place, number of records (of this call), advances (the count). The result is the code:
+ *    0 to 13   as in teyk_run. After an error or the end, the same is answered again, with no record
+ *   14, 15     as in teyk_run. The tokenizer stands before the call that was given up: with more room, or a higher limit, teyk_resume
+ *              goes on as if it had never stopped. With a `state` or an `answer` of fewer than four numbers 14 is the result, and nothing
+ *              at all is written
+ *   20         done is neither 0, 32 nor a code (1 to 29), or the cursor is not on a character's boundary of the text, or beyond its end;
+ *              place 0, no record, the advances are the count as given
+ * A short slice is tested first, then done, then 12, 13, 11, then the cursor. After 11, 12, 13 and 20 `state` is as it was. No
+ * call leaves a done of 11 to 29; it is answered as that error. */
+uint64_t teyk_resume(const uint8_t *text, size_t text_len, uint64_t shift, uint64_t limit, uint64_t *state, size_t state_len,
+                     uint64_t *records, size_t records_len, uint64_t *answer, size_t answer_len);
+
 /* Expands the escapes of a string literal's payload: \\ \" \n \r \t \0 \xHL (H octal, L hexadecimal).
  *
  * `idx0` is the place of the text's first byte. Without a backslash the answer is the text itself, and the buffer is not looked at.
- * Otherwise the expansion is written to the buffer from `place` on, and all its other bytes stay. A `place` beyond the buffer is allowed.
+ * Otherwise the expansion is written to the buffer from `place` on, and all its other bytes stay. It is never longer than the text.
+ * A `place` beyond the buffer is allowed.
  *
  * answer: place of the refusal, 0 or 1 (the text or the buffer holds the expansion), its start, its end. Start and end are indexes of
  * that slice. With code 0 the first number is 0; with a refusal the other three are 0. The result is the code:
@@ -176,6 +239,16 @@ uint64_t teyk_ltk_read(const uint8_t *file, size_t file_len, uint64_t *records, 
  * They are tested in this order. A refusal tells 0 bytes and writes none; bytes beyond the file are not written. */
 uint64_t teyk_ltk_write(const uint64_t *records, size_t records_len, uint8_t *buffer, size_t buffer_len, uint64_t *answer,
                         size_t answer_len);
+
+/* Writes the name of a kind (0 to 53), and of a code (1 to 29), as `teyk list` prints it: ASCII, and no zero byte after it.
+ *
+ * answer: the name's length. The result is the code:
+ *    0   the name stands at the buffer's start; bytes beyond it are not written
+ *   20   no kind, or no code, has the number
+ *   14   the buffer is too short; one of TEYK_NAME_MOST bytes never is. With an empty `answer` nothing is written
+ * An empty `answer` is tested first, then the number, then the buffer. A refusal tells 0 and writes nothing to the buffer. */
+uint64_t teyk_name_of_kind(uint64_t kind, uint8_t *buffer, size_t buffer_len, uint64_t *answer, size_t answer_len);
+uint64_t teyk_name_of_code(uint64_t code, uint8_t *buffer, size_t buffer_len, uint64_t *answer, size_t answer_len);
 
 #ifdef __cplusplus
 }

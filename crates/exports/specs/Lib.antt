@@ -1,2 +1,0 @@
--- what a reader must believe
-pub mod Calls
