@@ -8,9 +8,10 @@ import tempfile
 
 ROOT = os.path.normpath(os.path.join(os.path.dirname(os.path.abspath(__file__)), '..'))
 GRAMMARS = os.path.join(ROOT, 'tools', 'grammars')
-MARK = b'replay 1'
-MOST = 32768  # bytes of a case's body
-BUFFER = 65536  # bytes of the buffer that replay lends
+MARK = b'replay 2'
+MOST = 65535  # bytes of a case
+BUFFER = 4096  # bytes of the buffer that replay lends
+TOKENS = 4000  # tokens that replay has room for
 
 # in the order of the Rust's enums, which is 01's numbering
 KINDS = ('Enum Extern Grammar Match Else If Mut Pub In Type Where For Dyn Use Escape Id MacroId Lifetime StringLiteral CharLiteral RegexLiteral Ampersand '
@@ -33,13 +34,21 @@ EXAMPLE_EXPANSIONS = ['\\x7F', '\\xFF', '\\x', '\\x4', '\\', '\\x\\', '\\x4\\', 
 ALPHABETS = [
     ('', ['#', '!', '[', ']', '"', '\n', 'x'], 4),
     ('#![', ['[', ']', '"', '\\', '\n', 'é', '#'], 4),
+    ('#![', ['[', ']', '"', "'", '\\', '\n', '\r', '\r\n', 'é', '#'], 3),
     ('', ['/', '*', '\n', 'a'], 6),
+    ('', ['/', '*', '\n', '\r', '\r\n', 'a'], 4),
     ('', ['r', '#', '"', 'a', '_', '1'], 4),
     ('r#', ['#', '"', '\\', 'é'], 5),
+    ('r#"', ['#', '"', '\r', '\r\n'], 4),
     ('', ["'", '\\', 'a', '"', '`', 'é'], 4),
+    ('', ["'", '\\', 'a', '"', '`', '\n', '\r', '\r\n'], 3),
+    ('"', ['\\', 'a', '"', '\r', '\r\n'], 4),
     ('=>', ["'", '"', '\\', 'a', '(', ')', ','], 4),
+    ('=>', ["'", '"', '\\', '\r', '\r\n', 'a', '(', ')', ','], 3),
     ('=>', ['r', '#', '"', 'a', ';'], 5),
     ('=>', ['/', '*', '\n', '[', ']', "'"], 4),
+    ('=>//', ['/', '*', '\n', '\r', '\r\n', '[', ']', ';'], 3),
+    ('=>', ['/', '*', '\n', '\r', '\r\n', '[', ']', "'", ';'], 3),
     ('use', [' ', '{', '}', ';', "'", 'r', '#', '_'], 3),
     ('', ['=', '>', '?', '@', 'L', '!', '~'], 4),
     ('', ['.', '-', '>', ':', '<', '+', '$', '&'], 3),
@@ -288,10 +297,21 @@ def with_oracle(given, work):
         return work(build_oracle(folder))
 
 
-def numbers(values):
-    if max(values) < 128:
-        return bytes(values)
-    return b''.join([bytes((n,)) if n < 128 else bytes((128 + n // 256, n % 256)) if n < 32512 else b'\xff' + n.to_bytes(8, 'little') for n in values])
+def digits(n):
+    """A number to the base 128, the highest digit first, with 128 added to all but the last."""
+    out = [n % 128]
+    while n >= 128:
+        n //= 128
+        out.append(128 + n % 128)
+    return bytes(reversed(out))
+
+
+def case_of(data, values):
+    """A case of the file: the lengths of its bytes and of its numbers, and both."""
+    numbers = bytes(values) if max(values) < 128 else b''.join([digits(n) for n in values])
+    if len(data) + len(numbers) > MOST:
+        sys.exit('a case is too long')
+    return len(data).to_bytes(2, 'little') + len(numbers).to_bytes(2, 'little') + data + numbers
 
 
 def ask(oracle, mode, cases):
@@ -300,9 +320,9 @@ def ask(oracle, mode, cases):
     return subprocess.run([oracle, mode], input=data, stdout=subprocess.PIPE, check=True).stdout.split(b'\n')[:-1]
 
 
-def text_bodies(oracle, cases):
-    """The body of each case, a text and a shift, with the Rust's answer; None where the Rust panics."""
-    bodies, flat, at = [], [], 0
+def text_answers(oracle, cases):
+    """Each case, a text and a shift, as its bytes and its numbers, with the Rust's answer; None where the Rust panics."""
+    answers, flat, at = [], [], 0
     kind = KIND_NUMBER
     for line in ask(oracle, 'count', cases):
         word = line.split()
@@ -313,7 +333,7 @@ def text_bodies(oracle, cases):
         text, shift = cases[at]
         at += 1
         if first == b'panic':
-            bodies.append(None)
+            answers.append(None)
             flat = []
             continue
         if first == b'end':
@@ -322,38 +342,42 @@ def text_bodies(oracle, cases):
             code, place, advances, cursor = CODE_NUMBER[word[1]], int(word[3]), int(word[5]), int(word[7]) - (0 if word[1] == b'NotUtf8' else shift)
         else:
             sys.exit('the oracle says ' + line.decode())
-        bodies.append(numbers((shift, len(text))) + text + numbers([len(flat) // 5, code, place, advances, cursor] + flat))
+        if len(flat) > 5 * TOKENS:
+            sys.exit('a text has too many tokens')
+        answers.append((text, [shift, len(flat) // 5, code, place, advances, cursor] + flat))
         flat = []
     if at != len(cases):
         sys.exit('the oracle answered %d of %d texts' % (at, len(cases)))
-    return bodies
+    return answers
 
 
-def expansion_bodies(oracle, cases):
-    """The body of each case, a text, idx0, a place and what the buffer has beyond, with the Rust's answer; None where the Rust panics."""
-    bodies = []
+def expansion_answers(oracle, cases):
+    """Each case, a text, idx0, a place and what the buffer has beyond, as its bytes and its numbers, with the Rust's answer; None where the Rust panics."""
+    answers = []
     lines = ask(oracle, 'expand', cases)
     if len(lines) != len(cases):
         sys.exit('the oracle answered %d of %d expansions' % (len(lines), len(cases)))
     for (text, idx0, place, beyond), line in zip(cases, lines):
         word = line.split()
         if word[0] == b'panic':
-            bodies.append(None)
+            answers.append(None)
             continue
+        n = 0
         if word[0] == b'error':
-            room, answer = place + beyond, numbers((CODE_NUMBER[word[1]], int(word[3]), 0, 0, 0))
+            answer = [CODE_NUMBER[word[1]], int(word[3]), 0, 0, 0, 0]
         else:
             expanded = bytes.fromhex(word[1].decode()) if len(word) > 1 else b''
             if word[0] == b'written':
-                room, answer = place + len(expanded) + beyond, numbers((0, 0, 2, place, place + len(expanded))) + expanded
+                n = len(expanded)
+                answer = [0, 0, 2, place, place + n, n, *expanded]
             else:
-                room, answer = place + beyond, numbers((0, 0, 1, 0, len(expanded))) + expanded
-        bodies.append(numbers((idx0, place, room, len(text))) + text + answer)
-    return bodies
+                answer = [0, 0, 1, 0, len(expanded), 0, *expanded]
+        if place + n + beyond > BUFFER:
+            sys.exit('an expansion needs too large a buffer')
+        answers.append((text, [idx0, place, place + n + beyond] + answer))
+    return answers
 
 
-def file_of(texts, expansions):
-    """The file that replay reads."""
-    if any(len(body) > MOST for body in texts + expansions):
-        sys.exit('a case is too long')
-    return b''.join([MARK, len(texts).to_bytes(4, 'little'), len(expansions).to_bytes(4, 'little')] + [len(body).to_bytes(2, 'little') + body for body in texts + expansions])
+def file_of(*parts):
+    """The file that replay reads: its head, then texts, expansions, planted texts, planted expansions, each as its bytes and its numbers."""
+    return b''.join([case_of(MARK, [len(part) for part in parts])] + [case_of(*case) for part in parts for case in part])

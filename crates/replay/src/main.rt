@@ -1,123 +1,127 @@
-// The Rust's recorded answers, run again: standard input holds cases with the answers that the Rust gave (tools/record makes the file), and each
-// is run through the public functions and compared in every field. Said is the number of cases, or the first difference.
+// The Rust's recorded answers, asked again: standard input holds cases with the answers that the Rust gave (tools/record makes the file). Each text is
+// asked in three forms, each expansion in one, and every number of an answer is compared. After the ordinary cases stand planted ones, whose recorded
+// answers are wrong on purpose: for each of them, in each form, the difference is printed, so that the stored run shows that differences are seen.
 //
-// The file, all numbers little-endian:
-//   head    `replay 1`, the number of texts and the number of expansions, four bytes each
-//   cases   first all texts, then all expansions; each is the length of its body in two bytes, at most 32,768, and the body
-//   number  in a body: below 128 one byte; below 32,512 two, 128 + n / 256 and n % 256; else the byte 255 and eight bytes
-//   body of a text: shift, length, the bytes of the text; then the answer: number of tokens, code (0 at the end), place, advances, cursor (with no
-//           shift), and for each token kind, start, end, payload start, payload end
-//   body of an expansion: idx0, place in the buffer, length of the buffer, length, the bytes of the text; then the answer: code (0 for none), place of
-//           the refusal, where the expansion stands (0 nowhere, 1 in the text, 2 in the buffer), start, end, and its bytes
+// The file is a list of cases. A case is the length of its bytes and the length of its numbers, of two bytes each, little-endian, then both. A number
+// is its digits to the base 128, the highest first, with 128 added to all but the last.
+//   head       its bytes are `replay 2`, its numbers count the cases after it: texts, expansions, planted texts, planted expansions; so they stand
+//   text       its bytes are the text; its numbers are the shift, then the answer: number of tokens, code (0 at the end), place, advances, cursor (with
+//              no shift), and for each token kind, start, end, payload start, payload end
+//   expansion  its bytes are the text; its numbers are idx0, place in the buffer, length of the buffer, then the answer: code (0 for none), place of the
+//              refusal, where the expansion stands (0 nowhere, 1 in the text, 2 in the buffer), start, end, how many bytes of the buffer are written, and
+//              the bytes of the expansion
 // After the last case the file ends.
-mod cases;
 mod expansions;
-mod numbers;
+mod file;
+mod lists;
 mod say;
 mod texts;
 mod words;
 
-use numbers::Verdict;
-use numbers::eight;
-use numbers::four;
-use say::decimal;
-use say::is_same;
+use say::Case;
 use say::word;
-use words::EXPANSION;
-use words::GOES_ON;
-use words::HEAD_CUT;
-use words::MALFORMED;
-use words::NO_DIFFERENCE;
-use words::NO_MARK;
-use words::TEXT;
-use words::TEXTS;
 
-// `replay 1`
-const MARK: u64 = 3539962766451303794;
+// The most bytes of a case, and the most numbers.
+const BYTES: usize = 65536;
+
+const NUMBERS: usize = 20006;
+
+// What is found of a case, or of a part of the file: whether it is whole, and whether it is answered as it is recorded.
+pub struct Found {
+    pub whole: bool,
+    pub same: bool,
+}
 
 fn main() {
-    let mut head = [0u8; 16];
-    let n = io::read_full(0, &mut head);
-    if n < 16 {
-        wrong(HEAD_CUT);
+    let mut bytes = [0u8; 64];
+    let mut numbers = [0u64; 4];
+    let head = file::next(&mut bytes, &mut numbers);
+    let b = head.bytes;
+    if file::is_mark(&bytes[0..b]) & (head.numbers == 4) {
+        all(numbers[0], numbers[1], numbers[2], numbers[3]);
         return;
     }
-    if eight(&head, 0) != MARK {
-        wrong(NO_MARK);
-        return;
-    }
-    compare(four(&head, 8), four(&head, 12));
+    file::is_end();
+    word(words::NO_HEAD);
 }
 
-fn wrong(how: usize) {
-    word(MALFORMED);
-    word(how);
+// The four parts of the file, after its head.
+fn all(texts: u64, expansions: u64, planted_texts: u64, planted_expansions: u64) {
+    let a = part(true, false, true, texts);
+    let b = part(a.whole, false, false, expansions);
+    let c = part(b.whole, true, true, planted_texts);
+    let d = part(c.whole, true, false, planted_expansions);
+    if d.whole {
+        finish(texts, expansions, a.same & b.same);
+    }
 }
 
-// All cases of the file, after its head.
-fn compare(texts: u64, expansions: u64) {
-    let mut body = [0u8; 32768];
-    // a token takes at least one byte, so there is room for all
-    let mut list = [0u64; 163840];
-    if !all_texts(texts, &mut body, &mut list) {
-        return;
+// A part of the file, where it is whole so far: so many cases of one kind. Of the ordinary ones the first that differs is said.
+fn part(whole: bool, planted: bool, is_text: bool, count: u64) -> Found {
+    let mut found = Found { whole, same: true };
+    let mut i: u64 = 0;
+    while i < count {
+        if !found.whole {
+            return found;
+        }
+        let same = found.same;
+        found = one(Case {
+            planted,
+            said: planted | same,
+            is_text,
+            index: i,
+        });
+        found.same = found.same & same;
+        i += 1;
     }
-    let mut buffer = [0u8; 65536];
-    if !all_expansions(expansions, &mut body, &mut buffer) {
-        return;
-    }
-    finish(texts, expansions);
+    found
 }
 
 // The file has to end here.
-fn finish(texts: u64, expansions: u64) {
-    let mut more = [0u8; 1];
-    if 0 < io::read_full(0, &mut more) {
-        wrong(GOES_ON);
-        return;
-    }
-    decimal(texts);
-    word(TEXTS);
-    decimal(expansions);
-    word(NO_DIFFERENCE);
-}
-
-// Whether each of the texts is answered as it is recorded.
-fn all_texts(count: u64, body: &mut [u8], list: &mut [u64]) -> bool {
-    let mut i: u64 = 0;
-    while i < count {
-        if !is_same(TEXT, i, one_text(body, list)) {
-            return false;
+fn finish(texts: u64, expansions: u64, same: bool) {
+    if file::is_end() {
+        say::counted(texts, words::TEXTS);
+        say::counted(expansions, words::EXPANSIONS);
+        if same {
+            word(words::NO_DIFFERENCE);
+            return;
         }
-        i += 1;
+        word(words::DIFFERENCE);
     }
-    true
 }
 
-fn one_text(body: &mut [u8], list: &mut [u64]) -> Verdict {
-    let n = cases::fetch(body);
+// The next case of the file.
+fn one(c: Case) -> Found {
+    let mut bytes = [0u8; BYTES];
+    let mut numbers = [0u64; NUMBERS];
+    let read = file::next(&mut bytes, &mut numbers);
+    let b = read.bytes;
+    let n = read.numbers;
     if n == 0 {
-        return Verdict::Cut;
+        file::is_end();
+        say::not_whole(c);
+        return Found {
+            whole: false,
+            same: false,
+        };
     }
-    texts::compare(&body[0..n], list)
+    Found {
+        whole: true,
+        same: !differs(c, &bytes[0..b], &numbers[0..n]),
+    }
 }
 
-// Whether each of the expansions is answered as it is recorded.
-fn all_expansions(count: u64, body: &mut [u8], buffer: &mut [u8]) -> bool {
-    let mut i: u64 = 0;
-    while i < count {
-        if !is_same(EXPANSION, i, one_expansion(body, buffer)) {
-            return false;
-        }
-        i += 1;
+// Whether any form of a case answers otherwise than is recorded.
+fn differs(c: Case, bytes: &[u8], numbers: &[u64]) -> bool {
+    if c.is_text {
+        return text_differs(c, bytes, lists::get(numbers, 0), lists::rest(numbers, 1));
     }
-    true
+    say::differs(c, say::EXPAND, expansions::expanded(bytes, numbers))
 }
 
-fn one_expansion(body: &mut [u8], buffer: &mut [u8]) -> Verdict {
-    let n = cases::fetch(body);
-    if n == 0 {
-        return Verdict::Cut;
-    }
-    expansions::compare(&body[0..n], buffer)
+fn text_differs(c: Case, text: &[u8], shift: u64, recorded: &[u64]) -> bool {
+    let a = say::differs(c, say::RUN, texts::listed(text, shift, recorded));
+    let b = say::differs(c, say::NEXT, texts::called(text, shift, recorded));
+    let d = say::differs(c, say::NUMBERS, texts::numbered(text, shift, recorded));
+    a | b | d
 }

@@ -1,93 +1,154 @@
 // What the program prints.
-use crate::numbers::Difference;
-use crate::numbers::Verdict;
+use crate::lists::Difference;
+use crate::lists::LENGTH;
 use crate::words::ANSWERED;
 use crate::words::BYTE;
 use crate::words::COLON;
 use crate::words::ENDS;
-use crate::words::HELD;
-use crate::words::IS_CUT;
-use crate::words::KIND;
-use crate::words::MALFORMED;
+use crate::words::EXPANSION;
+use crate::words::FORM;
 use crate::words::NEWLINE;
-use crate::words::NO_LAYOUT;
+use crate::words::NONE;
+use crate::words::NOT_WHOLE;
+use crate::words::OF_EXPANSION;
+use crate::words::OF_LENGTH;
+use crate::words::OF_TEXT;
 use crate::words::OF_TOKEN;
+use crate::words::PLANTED;
 use crate::words::RECORDED;
-use crate::words::SPACE;
+use crate::words::TEXT;
+use crate::words::TOKEN;
 use crate::words::WORDS;
 use libc::STDOUT_FILENO;
 
-// Prints a word of the table.
+// The forms in which a case is asked: a text in the first three, an expansion in the fourth.
+pub const RUN: usize = 0;
+
+pub const NEXT: usize = 1;
+
+pub const NUMBERS: usize = 2;
+
+pub const EXPAND: usize = 3;
+
+// A case: whether it is planted, whether its difference is said, whether it is a text or an expansion, and its number.
+pub struct Case {
+    pub planted: bool,
+    pub said: bool,
+    pub is_text: bool,
+    pub index: u64,
+}
+
+// Prints the i-th of the words.
+fn print(words: &[u8], ends: &[usize], i: usize) {
+    if i < ends.len() {
+        if i + 1 < ends.len() {
+            let a = ends[i];
+            let b = ends[i + 1];
+            if a <= b {
+                if b <= words.len() {
+                    io::write_all(STDOUT_FILENO, &words[a..b]);
+                }
+            }
+        }
+    }
+}
+
 pub(crate) fn word(i: usize) {
-    show::name(STDOUT_FILENO, &WORDS, &ENDS, i);
+    print(&WORDS, &ENDS, i);
 }
 
-pub(crate) fn decimal(n: u64) {
-    show::number(STDOUT_FILENO, n);
+fn decimal(n: u64) {
+    io::print_decimal(STDOUT_FILENO, n);
 }
 
-pub(crate) fn hex(b: u8) {
-    io::print_hex(STDOUT_FILENO, b as u64, 2);
+// A number and a word after it, and the other way about.
+pub(crate) fn counted(n: u64, i: usize) {
+    decimal(n);
+    word(i);
 }
 
-// A word and a number.
-pub(crate) fn named(i: usize, n: u64) {
+fn named(i: usize, n: u64) {
     word(i);
     decimal(n);
 }
 
-// A number, and the end of the line or a space.
-pub(crate) fn in_line(n: u64, last: bool) {
-    decimal(n);
-    if last {
-        word(NEWLINE);
+// Which case it is.
+fn title(c: Case) {
+    if c.planted {
+        word(PLANTED);
+    }
+    if c.is_text {
+        named(TEXT, c.index);
         return;
     }
-    word(SPACE);
+    named(EXPANSION, c.index);
 }
 
-// The file is not one: which case, by its word and number, and what is wrong.
-pub(crate) fn malformed(what: usize, i: u64, wrong: usize) {
-    word(MALFORMED);
-    named(what, i);
-    word(wrong);
+pub(crate) fn not_whole(c: Case) {
+    title(c);
+    word(NOT_WHOLE);
 }
 
-// A field, and where it has many, which.
-fn field(n: usize, index: u64) {
-    word(n);
-    if (KIND <= n) & (n < HELD) {
-        named(OF_TOKEN, index);
-    }
-    if BYTE <= n {
-        named(SPACE, index);
+// The case and the form.
+fn titles(c: Case, f: usize) {
+    title(c);
+    if f < EXPAND {
+        word(FORM + f);
     }
 }
 
-fn differs(what: usize, i: u64, d: Difference) {
-    named(what, i);
+// Which number of a text's answer it is.
+fn of_text(i: usize) {
+    if i < 5 {
+        word(OF_TEXT + i);
+        return;
+    }
+    let k = i - 5;
+    word(TOKEN + k % 5);
+    named(OF_TOKEN, (k / 5) as u64);
+}
+
+// Which number of an expansion's answer it is.
+fn of_expansion(i: usize) {
+    if i < 6 {
+        word(OF_EXPANSION + i);
+        return;
+    }
+    named(BYTE, (i - 6) as u64);
+}
+
+fn field(f: usize, i: usize) {
     word(COLON);
-    field(d.field, d.index);
+    if i == LENGTH {
+        word(OF_LENGTH);
+        return;
+    }
+    if f < EXPAND {
+        of_text(i);
+        return;
+    }
+    of_expansion(i);
+}
+
+fn difference(f: usize, d: Difference) {
+    field(f, d.at);
     named(RECORDED, d.recorded);
     named(ANSWERED, d.answered);
     word(NEWLINE);
 }
 
-// Says what was found of a case, where that is a difference or a fault, and answers whether it is neither.
-pub(crate) fn is_same(what: usize, i: u64, v: Verdict) -> bool {
-    match v {
-        Verdict::Same => true,
-        Verdict::Malformed => {
-            malformed(what, i, NO_LAYOUT);
-            false
+// Whether a form of a case differs. A difference is said, and of a planted case also that there is none.
+pub(crate) fn differs(c: Case, f: usize, d: Difference) -> bool {
+    if d.found {
+        if c.said {
+            titles(c, f);
+            difference(f, d);
         }
-        Verdict::Cut => {
-            malformed(what, i, IS_CUT);
-            false
-        }
-        Verdict::Differs(d) => {
-            differs(what, i, d);
-            false
-        }
+        return true;
     }
+    if c.planted {
+        titles(c, f);
+        word(NONE);
+    }
+    false
 }

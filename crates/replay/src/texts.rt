@@ -1,35 +1,41 @@
-// A recorded text: it is run, and the run compared with the answer.
-use crate::numbers::Number;
-use crate::numbers::Verdict;
-use crate::numbers::Walk;
-use crate::numbers::expect;
-use crate::numbers::number_at;
-use crate::numbers::text_at;
-use crate::say::in_line;
-use crate::say::word;
-use crate::words::ADVANCES;
-use crate::words::ANSWER;
-use crate::words::CODE;
-use crate::words::CURSOR;
-use crate::words::KIND;
-use crate::words::PLACE;
-use crate::words::TOKENS;
+// A recorded text, asked in three forms; each answers the first difference from what is recorded.
+use crate::lists::Difference;
+use crate::lists::LENGTH;
+use crate::lists::found;
+use crate::lists::none;
+use crate::lists::numbers_differ;
+use crate::lists::part;
+use crate::lists::rest;
 use reading::Outcome;
+use reading::Tokenizer;
+use reading::What;
+use record::Checked;
+use record::Token;
 use run::Ran;
+ghost use Prim.Native.Nat.{_≤_};
 
 const HIGHEST: u64 = 18446744073709551615;
 
-// The most tokens that a text of a case can have.
-const MOST: usize = 32768;
+// The numbers before those of the tokens.
+const HEAD: usize = 5;
 
-// A refusal's number; 0 at the end.
+// The most tokens that a text here can have, and the room for their numbers.
+const TOKENS: usize = 4000;
+
+const ROOM: usize = 20000;
+
+// No recorded number is this one.
+const BLANK: u64 = 9999999999999999999;
+
+// A refusal's number; 0 at the end, and 255, which no refusal has, for a run that goes on.
 fn code(how: Outcome) -> u64 {
     match how {
         Outcome::Refused(r) => {
             let c = r.code;
             record::code_number(c) as u64
         }
-        _ => 0,
+        Outcome::Ended => 0,
+        Outcome::Running => 255,
     }
 }
 
@@ -41,112 +47,126 @@ fn place(how: Outcome) -> u64 {
     }
 }
 
-// Every number of every token is compared.
-fn tokens(body: &[u8], from: Walk, list: &[u64]) -> Walk {
-    let mut w = from;
-    let mut i: usize = 0;
-    while i < list.len() {
-        w = expect(body, w, KIND + i % 5, (i / 5) as u64, list[i]);
-        i += 1;
+// An answer's first numbers, and then those of its tokens.
+fn answer_differs(recorded: &[u64], head: &[u64], tokens: &[u64]) -> Difference {
+    let d = numbers_differ(0, part(recorded, 0, HEAD), head);
+    if d.found {
+        return d;
     }
-    w
+    numbers_differ(HEAD, rest(recorded, HEAD), tokens)
 }
 
-// The tokens, each its five numbers in a line.
-fn show_tokens(list: &[u64]) {
-    let mut i: usize = 0;
-    while i < list.len() {
-        in_line(list[i], i % 5 == 4);
-        i += 1;
+// How many numbers so many tokens have.
+fn size(tokens: usize) -> usize {
+    if TOKENS < tokens {
+        return ROOM;
+    }
+    5 * tokens
+}
+
+fn run_differs(recorded: &[u64], r: Ran, list: &[u64]) -> Difference {
+    let how = r.how;
+    let state = r.state;
+    let head = [r.stored as u64, code(how), place(how), r.advances, state.at];
+    answer_differs(recorded, &head, part(list, 0, size(r.stored)))
+}
+
+// 01's form: a whole run into a lent list of records.
+pub(crate) fn listed(text: &[u8], shift: u64, recorded: &[u64]) -> Difference {
+    let mut list = [BLANK; ROOM];
+    let r = lent::run_listed(text, shift, HIGHEST, &mut list, tok::start());
+    run_differs(recorded, r, &list)
+}
+
+// A whole run into a list of numbers.
+pub(crate) fn numbered(text: &[u8], shift: u64, recorded: &[u64]) -> Difference {
+    let mut list = [BLANK; ROOM];
+    let r = run::run_numbers(text, shift, HIGHEST, &mut list, tok::start());
+    run_differs(recorded, r, &list)
+}
+
+// Whether a record's payload is read, and is as long as its places say.
+fn is_read(text: &[u8], shift: u64, t: Token) -> bool {
+    match run::payload_check(text, shift, t) {
+        Checked::Passed => {}
+        _ => return false,
+    }
+    if t.payload_end < t.payload_start {
+        return false;
+    }
+    let part = run::payload(text, shift, t);
+    part.len() as u64 == t.payload_end - t.payload_start
+}
+
+// A kind's number; 255, which no kind has, for a token whose payload is not read.
+fn kind(text: &[u8], shift: u64, t: Token) -> u64 {
+    if is_read(text, shift, t) {
+        let k = t.kind;
+        return record::kind_number(k) as u64;
+    }
+    255
+}
+
+// A token after n others; one that is not recorded is seen by the number of tokens.
+fn token_differs(recorded: &[u64], n: usize, kind: u64, t: Token) -> Difference
+    requires { ⌜ n ≤ 4000 ⌝ }
+{
+    let at = HEAD + 5 * n;
+    if recorded.len() <= at {
+        return none(true);
+    }
+    let group = [kind, t.start, t.end, t.payload_start, t.payload_end];
+    numbers_differ(at, part(recorded, at, 5), &group)
+}
+
+// The end of the calls, after n tokens, which are compared: the tokenizer's count and cursor are the answer's.
+fn end_differs(recorded: &[u64], n: usize, code: u64, place: u64, t: Tokenizer) -> Difference {
+    let head = [n as u64, code, place, t.count, t.at];
+    answer_differs(recorded, &head, part(rest(recorded, HEAD), 0, size(n)))
+}
+
+// A call after n tokens; the last one ends the comparison.
+fn call_differs(
+    text: &[u8],
+    shift: u64,
+    recorded: &[u64],
+    n: usize,
+    what: What,
+    t: Tokenizer,
+) -> Difference
+    requires { ⌜ n ≤ 4000 ⌝ }
+{
+    match what {
+        What::Got(k) => token_differs(recorded, n, kind(text, shift, k), k),
+        What::Error(r) => {
+            let c = r.code;
+            last(end_differs(recorded, n, record::code_number(c) as u64, r.place, t))
+        }
+        What::End => last(end_differs(recorded, n, 0, 0, t)),
     }
 }
 
-// Prints what was answered.
-fn show(code: u64, place: u64, advances: u64, cursor: u64, list: &[u64]) {
-    show_tokens(list);
-    word(ANSWER);
-    in_line(code, false);
-    in_line(place, false);
-    in_line(advances, false);
-    in_line(cursor, true);
-}
-
-// The numbers of an answer are compared, and then those of the tokens.
-fn held(
-    body: &[u8],
-    at: usize,
-    code: u64,
-    place: u64,
-    advances: u64,
-    cursor: u64,
-    list: &[u64],
-) -> Walk {
-    let begun = Walk {
-        at,
-        found: Verdict::Same,
-    };
-    let counted = expect(body, begun, TOKENS, 0, (list.len() / 5) as u64);
-    let coded = expect(body, counted, CODE, 0, code);
-    let placed = expect(body, coded, PLACE, 0, place);
-    let advanced = expect(body, placed, ADVANCES, 0, advances);
-    let stood = expect(body, advanced, CURSOR, 0, cursor);
-    tokens(body, stood, list)
-}
-
-// The same, and what was answered is printed where it differs.
-fn told(
-    body: &[u8],
-    at: usize,
-    code: u64,
-    place: u64,
-    advances: u64,
-    cursor: u64,
-    list: &[u64],
-) -> Verdict {
-    let found = crate::numbers::finish(body, held(body, at, code, place, advances, cursor, list));
-    if let Verdict::Differs(_) = found {
-        show(code, place, advances, cursor, list);
+fn last(d: Difference) -> Difference {
+    if d.found {
+        return d;
     }
-    found
+    none(false)
 }
 
-fn answer(body: &[u8], at: usize, ran: Ran, list: &[u64]) -> Verdict {
-    let how = ran.how;
-    let state = ran.state;
-    told(
-        body,
-        at,
-        code(how),
-        place(how),
-        ran.advances,
-        state.at,
-        list,
-    )
-}
-
-// The numbers of the tokens that were delivered.
-fn delivered(list: &[u64], stored: usize) -> &[u64] {
-    if MOST < stored {
-        return &list[0..0];
+// Call by call on a lent tokenizer, until the end, an error or a difference.
+pub(crate) fn called(text: &[u8], shift: u64, recorded: &[u64]) -> Difference {
+    let mut t = tok::start();
+    let mut n: usize = 0;
+    while n < TOKENS {
+        let s = lent::next_lent(text, shift, HIGHEST, t);
+        let what = s.what;
+        t = s.next;
+        let d = call_differs(text, shift, recorded, n, what, t);
+        if !d.going {
+            return d;
+        }
+        n += 1;
     }
-    let n = 5 * stored;
-    if list.len() < n {
-        return &list[0..0];
-    }
-    &list[0..n]
-}
-
-// Runs the text of a body, and compares.
-pub(crate) fn compare(body: &[u8], list: &mut [u64]) -> Verdict {
-    let Number::Is { value: shift, next } = number_at(body, 0) else {
-        return Verdict::Malformed;
-    };
-    let text = text_at(body, next);
-    if !text.ok {
-        return Verdict::Malformed;
-    }
-    let from = text.from;
-    let to = text.to;
-    let ran = run::run_numbers(&body[from..to], shift, HIGHEST, list, tok::start());
-    answer(body, to, ran, delivered(list, ran.stored))
+    // more tokens than any text here has
+    found(LENGTH, recorded.len() as u64, ROOM as u64)
 }

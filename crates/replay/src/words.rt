@@ -1,65 +1,56 @@
-// The words that the program prints, one after another, and where each ends. The first ones name the fields of an answer.
-pub const TOKENS: usize = 0;
+// The words that the program prints, one after another, and where each ends.
+// the numbers of a text's answer, then of a token, then of an expansion's answer
+pub const OF_TEXT: usize = 0;
 
-pub const CODE: usize = 1;
+pub const TOKEN: usize = 5;
 
-pub const PLACE: usize = 2;
+pub const OF_EXPANSION: usize = 10;
 
-pub const ADVANCES: usize = 3;
+pub const BYTE: usize = 16;
 
-pub const CURSOR: usize = 4;
+pub const OF_TOKEN: usize = 17;
 
-// the five fields of a token begin here
-pub const KIND: usize = 5;
+// the forms, in their order
+pub const FORM: usize = 18;
 
-pub const HELD: usize = 10;
+pub const PLANTED: usize = 22;
 
-pub const START: usize = 11;
+pub const TEXT: usize = 23;
 
-pub const END: usize = 12;
+pub const EXPANSION: usize = 24;
 
-pub const BYTE: usize = 13;
+pub const COLON: usize = 25;
 
-pub const OUTSIDE: usize = 14;
+pub const OF_LENGTH: usize = 26;
 
-pub const TEXT: usize = 15;
+pub const RECORDED: usize = 27;
 
-pub const EXPANSION: usize = 16;
+pub const ANSWERED: usize = 28;
 
-pub const COLON: usize = 17;
+pub const NEWLINE: usize = 29;
 
-pub const OF_TOKEN: usize = 18;
+pub const NONE: usize = 30;
 
-pub const SPACE: usize = 19;
+pub const NOT_WHOLE: usize = 31;
 
-pub const RECORDED: usize = 20;
+pub const NO_HEAD: usize = 32;
 
-pub const ANSWERED: usize = 21;
+pub const FAILED: usize = 33;
 
-pub const NEWLINE: usize = 22;
+pub const GOES_ON: usize = 34;
 
-pub const MALFORMED: usize = 23;
+pub const TEXTS: usize = 35;
 
-pub const IS_CUT: usize = 24;
+pub const EXPANSIONS: usize = 36;
 
-pub const NO_LAYOUT: usize = 25;
+pub const NO_DIFFERENCE: usize = 37;
 
-pub const HEAD_CUT: usize = 26;
+pub const DIFFERENCE: usize = 38;
 
-pub const NO_MARK: usize = 27;
+pub const WORDS: [u8; 417] =
+    *b"number of tokenscodeplaceadvancescursorkindstartendpayload startpayload endcodeplacewhere it standsstartendbytes writtenbyte  of token , run::run, run::next, run::run_numbersplanted text expansion : length of the answer: recorded , answered \n shows no difference\n is not whole\nthe head is not that of a file of cases\na read failed\nthe file goes on\n texts,  expansions: no difference\nthe first difference stands above\n";
 
-pub const GOES_ON: usize = 28;
-
-pub const TEXTS: usize = 29;
-
-pub const NO_DIFFERENCE: usize = 30;
-
-pub const ANSWER: usize = 31;
-
-pub const WORDS: [u8; 366] =
-    *b"number of tokenscodeplaceadvancescursorkindstartendpayload startpayload endwhere it standsstartendbyteoutside the expansion, bytetext expansion :  of token  : recorded , answered \nmalformed:  is cut\n has not the layout of a case\nthe head is cut\nthe mark is not that of a file of cases\nthe file goes on after its last case\n texts,  expansions: no difference\nanswered ";
-
-pub const ENDS: [usize; 33] = [
+pub const ENDS: [usize; 40] = [
     0,
     16,
     20,
@@ -71,26 +62,33 @@ pub const ENDS: [usize; 33] = [
     51,
     64,
     75,
-    90,
-    95,
-    98,
-    102,
-    129,
-    134,
-    144,
-    146,
+    79,
+    84,
+    99,
+    104,
+    107,
+    120,
+    125,
+    135,
+    145,
     156,
-    157,
-    168,
-    179,
-    180,
-    191,
+    174,
+    174,
+    182,
+    187,
+    197,
     199,
-    229,
-    245,
-    285,
-    322,
-    330,
-    357,
-    366,
+    219,
+    230,
+    241,
+    242,
+    263,
+    277,
+    317,
+    331,
+    348,
+    356,
+    369,
+    383,
+    417,
 ];

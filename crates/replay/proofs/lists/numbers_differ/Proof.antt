@@ -1,18 +1,19 @@
--- `replay::expansions::bytes` is safe and ends.
-use Prim.Native.Nat.{_≤_, _+_, _-_}
+-- `replay::lists::numbers_differ` is safe and ends.
+use mathlib.Core.Path.{_≡_}
+use Prim.Native.Nat.{_≤_, _-_}
 use borrow.Author.Needs.{needs}
 use lib.ListN.{length}
-use Rattle.replay.proofs.expansions.bytes.Statement.{statement}
-use Rattle.replay.proofs.expansions.bytes.Tie as tie
+use Rattle.replay.proofs.lists.numbers_differ.Statement.{statement}
+use Rattle.replay.proofs.lists.numbers_differ.Tie as tie
 
 abbrev Inv-loop : tie.InvT-loop
-Inv-loop body expansion at now₀ i₀ now i = (i ≤ length expansion) × (at + length expansion ≤ length body)
+Inv-loop first recorded answered i₀ i = (i ≤ length recorded) × (length recorded ≡ length answered)
 
 abbrev μ-loop : tie.MeasureT-loop
-μ-loop body expansion at now₀ i₀ now i = length expansion - i
+μ-loop first recorded answered i₀ i = length recorded - i
 
-pub bytes-spec : {M : Type 1} → statement M
-bytes-spec =
+pub numbers-differ-spec : {M : Type 1} → statement M
+numbers-differ-spec =
     tie.close
     (tie.spec
     Inv-loop
@@ -20,12 +21,11 @@ bytes-spec =
     (λ c κs. search needs)
     (λ c. search needs)
     (λ c. search needs)
+    (λ c. search needs)
+    (λ c. search needs)
+    (λ c. search needs)
+    (λ c. search needs)
     (λ c κs. search needs)
-    (λ c. search needs)
-    (λ c. search needs)
-    (λ c. search needs)
-    (λ c. search needs)
-    (λ c. search needs)
     (λ c κs. search needs)
     (λ c. search needs)
     (λ c. search needs)
