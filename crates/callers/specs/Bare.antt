@@ -5,6 +5,7 @@ use mathlib.Core.Bool.{false, true}
 use mathlib.Core.List.{List, [], _∷_}
 use mathlib.Core.Path.{_≡_, refl, sym, ap, _∙_}
 use lib.ListN.{getD, length}
+use Rattle.record.specs.Codes.{among}
 use Rattle.record.specs.Records.{tokenOf}
 use Rattle.record.specs.declared.Code.{Code}
 use Rattle.record.specs.declared.Kind.{Kind}
@@ -20,7 +21,7 @@ use Rattle.reading.specs.declared.What.{What}
 use Rattle.reading.specs.declared.What.the-variants.{End, Error, Got}
 use Rattle.run.specs.Checked.{nextToken, wholeRun}
 use Rattle.run.specs.declared.Ran.{Ran}
-use Rattle.ledger.specs.Answered.{SaysIn, among, hasPayload, next-says}
+use Rattle.ledger.specs.Answered.{SaysIn, hasPayload, next-says}
 use Rattle.ledger.specs.Books.{held}
 use Rattle.ledger.specs.Order.{Called, called, found}
 use Rattle.callers.specs.Contracts.{Nexts, RunsFrom}

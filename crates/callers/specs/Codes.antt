@@ -1,17 +1,17 @@
 -- WHICH CODES COME OUT. Of the reading only 1, 2, 5, 6, 8, 9 and 10: so 3, 4 and 7, 16 to 20 and all above never come out of a call or a run.
 use Prim.Native.Nat.{ℕ}
 use native.Mathlib.Omega.{arith}
-use mathlib.Core.Bool.{Bool, _&&_, false, not, true}
+use mathlib.Core.Bool.{false, true}
 use mathlib.Core.List.{List, [], _∷_}
 use mathlib.Core.Path.{_≡_, refl, sym, _∙_}
-use lib.Dec.{eqb}
 use lib.ListN.{length}
-use borrow.Author.Tests.{eqb-true}
-use Rattle.utf8.specs.Laws.{both}
 use Rattle.record.specs.Checks.{checks}
+use Rattle.record.specs.Codes.{Apart, OneOf, Refuses, among, checks-refuse, each, newCodes, none-of, one-of, refused-for}
 use Rattle.record.specs.Numbers.{codeNumber}
+use Rattle.record.specs.Records.{refusal}
+use Rattle.record.specs.declared.Checked.the-variants.{Refused as Stopped}
 use Rattle.record.specs.declared.Code.{Code}
-use Rattle.record.specs.declared.Code.the-variants.{NoRoom}
+use Rattle.record.specs.declared.Code.the-variants.{BadRecord, NoRoom}
 use Rattle.record.specs.declared.Refusal.{Refusal}
 use Rattle.record.specs.declared.Token.{Token}
 use Rattle.scan.specs.Until.{left}
@@ -23,10 +23,10 @@ use Rattle.reading.specs.declared.Tokenizer.{Tokenizer}
 use Rattle.reading.specs.declared.What.{What}
 use Rattle.reading.specs.declared.What.the-variants.{End, Error, Got}
 use Rattle.run.specs.Checked.{nextToken}
+use Rattle.run.specs.Payload.{isPayload, payloadCheck}
 use Rattle.run.specs.declared.Ran.{Ran}
-use Rattle.ledger.specs.Answered.{SaysIn, among, next-says}
+use Rattle.ledger.specs.Answered.{SaysIn, next-says}
 use Rattle.ledger.specs.Books.{held}
-use Rattle.ledger.specs.Runs.{Refuses, checks-refuse}
 use Rattle.callers.specs.Contracts.{Kept, Nexts, RunsFrom}
 use Rattle.callers.specs.Cursors.{by-kept, kept-boundary, reached-kept}
 use Rattle.callers.specs.Single.{Single, callOf, end-kept, error-kept, limited, off, read, refused, single}
@@ -42,23 +42,6 @@ callCodes = 1 ∷ 2 ∷ 5 ∷ 6 ∷ 8 ∷ 9 ∷ 10 ∷ 11 ∷ 12 ∷ 13 ∷ 15 �
 
 abbrev pub runCodes : List ℕ
 runCodes = 1 ∷ 2 ∷ 5 ∷ 6 ∷ 8 ∷ 9 ∷ 10 ∷ 11 ∷ 12 ∷ 13 ∷ 14 ∷ 15 ∷ []
-
-abbrev pub OneOf : List ℕ → Code → Type 0
-OneOf ns c = among (codeNumber c) ns ≡ true
-
--- ---- a test that each number of a list passes is passed by one that is among them
-unfoldable pub each : (ℕ → Bool) → List ℕ → Bool
-each test [] = true
-each test (n ∷ ns) = test n && each test ns
-
-pub one-of : (test : ℕ → Bool) (n : ℕ) (ns : List ℕ) → each test ns ≡ true → among n ns ≡ true → test n ≡ true
-unfolding among each
-one-of test n [] h e = let w : _≡_ {A = ℕ} 0 1 = cc in absurd (omega arith)
-one-of test n (m ∷ ns) h e = let b = both (test m) (each test ns) h in go (eqb n m) refl (b .0) (λ w. one-of test n ns (b .1) w)
-  where
-    go : (b : Bool) → eqb n m ≡ b → test m ≡ true → (among n ns ≡ true → test n ≡ true) → test n ≡ true
-    go true q p f = rw (eqb-true n m q) p
-    go false q p f = f (rw q at e)
 
 -- ---- how a tokenizer that a caller has can be done: it runs, or keeps the end or a code of the reading
 abbrev pub DoneBy : Outcome → Type 0
@@ -88,23 +71,16 @@ next-holds s shift limit t h = go (single s shift limit t)
     go (read k l e) = rw e (done-by shift (callOf s t .what) (reads (left s (t .at)) (t .at)))
 
 -- so where no code of the reading is among these, none of them is read
-abbrev pub Apart : List ℕ → Type 0
-Apart ns = each (λ (n : ℕ). not (among n ns)) readingCodes ≡ true
-
-pub not-reading : (ns : List ℕ) → Apart ns → (c : Code) → OneOf readingCodes c → OneOf ns c → ⊥
-not-reading ns a c h e =
-    let w : not (among (codeNumber c) ns) ≡ true = one-of (λ n. not (among n ns)) (codeNumber c) readingCodes a h in
-    let z : false ≡ true = rw e at w in
-    let q : _≡_ {A = ℕ} 0 1 = cc in
-    omega arith
+pub not-reading : (ns : List ℕ) → Apart readingCodes ns → (c : Code) → OneOf readingCodes c → OneOf ns c → ⊥
+not-reading ns a c h e = let z : false ≡ true = sym (none-of readingCodes ns a c h) ∙ e in let q : _≡_ {A = ℕ} 0 1 = cc in omega arith
 
 -- nor does a call of the reading answer one
-said-not : (ns : List ℕ) → Apart ns → (shift : ℕ) (w : What) (z : Refusal) → SaysIn (λ (t : Token). Unit {0}) (OneOf readingCodes) w → shiftWhat shift w ≡ Error z → OneOf ns (z .code) → ⊥
+said-not : (ns : List ℕ) → Apart readingCodes ns → (shift : ℕ) (w : What) (z : Refusal) → SaysIn (λ (t : Token). Unit {0}) (OneOf readingCodes) w → shiftWhat shift w ≡ Error z → OneOf ns (z .code) → ⊥
 said-not ns a shift (Got t) z h e o = let q : _≡_ {A = ℕ} 0 1 = cc in omega arith
 said-not ns a shift (Error r) z h e o = let q : z .code ≡ r .code = cc in not-reading ns a (r .code) h (rw q at o)
 said-not ns a shift End z h e o = let q : _≡_ {A = ℕ} 0 1 = cc in omega arith
 
-pub read-not : (ns : List ℕ) → Apart ns → (s : List ℕ) (shift : ℕ) (t : Tokenizer) (z : Refusal) → shiftWhat shift (callOf s t .what) ≡ Error z → OneOf ns (z .code) → ⊥
+pub read-not : (ns : List ℕ) → Apart readingCodes ns → (s : List ℕ) (shift : ℕ) (t : Tokenizer) (z : Refusal) → shiftWhat shift (callOf s t .what) ≡ Error z → OneOf ns (z .code) → ⊥
 read-not ns a s shift t z e o = said-not ns a shift (callOf s t .what) z (reads (left s (t .at)) (t .at)) e o
 
 -- every tokenizer that a caller has is done so
@@ -160,18 +136,18 @@ run-codes s shift limit t before r after k c z e = let d = repeated s shift limi
 
 -- ---- so 3, 4 and 7 never come out of a call or a run; nor 16 to 20, which are expansion's, the LTK file's and a cursor's off a boundary; nor 21 to 29
 abbrev pub neverCodes : List ℕ
-neverCodes = 3 ∷ 4 ∷ 7 ∷ 16 ∷ 17 ∷ 18 ∷ 19 ∷ 20 ∷ 21 ∷ 22 ∷ 23 ∷ 24 ∷ 25 ∷ 26 ∷ 27 ∷ 28 ∷ 29 ∷ []
-
-not-true : (b : Bool) → not b ≡ true → b ≡ false
-not-true true e = sym e
-not-true false e = refl
+neverCodes = 3 ∷ 4 ∷ 7 ∷ 16 ∷ 17 ∷ 18 ∷ 19 ∷ 20 ∷ newCodes
 
 pub next-never : (s : List ℕ) (shift limit : ℕ) (t : Tokenizer) → Kept s t → (z : Refusal) (u : Tokenizer) → Nexts s shift limit t (Error z) u → among (codeNumber (z .code)) (14 ∷ neverCodes) ≡ false
 unfolding among each
-next-never s shift limit t k z u c = not-true _ (one-of (λ n. not (among n (14 ∷ neverCodes))) (codeNumber (z .code)) callCodes refl (next-codes s shift limit t k z u c))
+next-never s shift limit t k z u c = none-of callCodes (14 ∷ neverCodes) refl (z .code) (next-codes s shift limit t k z u c)
 
 pub run-never : (s : List ℕ) (shift limit : ℕ) (t : Tokenizer) (before : List Token) (r : Ran) (after : List Token) → Kept s t → RunsFrom s shift limit t before r after
     → (z : Refusal) → r .how ≡ Refused z → among (codeNumber (z .code)) neverCodes ≡ false
 unfolding among each
-run-never s shift limit t before r after k c z e =
-    not-true _ (one-of (λ n. not (among n neverCodes)) (codeNumber (z .code)) runCodes refl (run-codes s shift limit t before r after k c z e))
+run-never s shift limit t before r after k c z e = none-of runCodes neverCodes refl (z .code) (run-codes s shift limit t before r after k c z e)
+
+-- ---- the check of a payload refuses for 20 alone
+pub payload-codes : (s : List ℕ) (shift : ℕ) (t : Token) (r : Refusal) → payloadCheck s shift t ≡ Stopped r → r .code ≡ BadRecord
+unfolding payloadCheck
+payload-codes s shift t r e = refused-for (isPayload s shift (t .«payload_start») (t .«payload_end»)) (refusal BadRecord 0) r e

@@ -9,6 +9,7 @@ use lib.Dec.{eqb}
 use lib.ListN.{length}
 use borrow.Author.Tests.{ltb-false, ltb-true}
 use Rattle.record.specs.Checks.{checks}
+use Rattle.record.specs.Codes.{Apart, OneOf, Refuses, among, checks-refuse, each}
 use Rattle.record.specs.Numbers.{codeNumber}
 use Rattle.record.specs.Records.{refusal}
 use Rattle.record.specs.declared.Code.{Code}
@@ -23,11 +24,9 @@ use Rattle.reading.specs.declared.What.{What}
 use Rattle.reading.specs.declared.What.the-variants.{End, Error, Got}
 use Rattle.run.specs.Checked.{nextToken, ranWith}
 use Rattle.run.specs.declared.Ran.{Ran}
-use Rattle.ledger.specs.Answered.{among}
 use Rattle.ledger.specs.Books.{held}
 use Rattle.ledger.specs.Order.{found}
-use Rattle.ledger.specs.Runs.{Refuses, checks-refuse}
-use Rattle.callers.specs.Codes.{Apart, DoneBy, OneOf, each, kept-done, neverCodes, next-never, not-reading, read-not}
+use Rattle.callers.specs.Codes.{DoneBy, kept-done, neverCodes, next-never, not-reading, read-not, readingCodes}
 use Rattle.callers.specs.Contracts.{Kept, Nexts, RunsFrom}
 use Rattle.callers.specs.Single.{Single, Stands, callOf, end-kept, error-kept, errorAt, limited, off, read, refused, single}
 use Rattle.callers.specs.Cursors.{reached-kept}
@@ -60,7 +59,7 @@ pub record Limited (s : List ℕ) (shift limit : ℕ) (t : Tokenizer) (z : Refus
   pub above : Above s limit t
   pub place : z .place ≡ t .at + shift
 
-apart : Apart (15 ∷ [])
+apart : Apart readingCodes (15 ∷ [])
 unfolding among each
 apart = refl
 

@@ -6,6 +6,7 @@ use mathlib.Core.List.{List, [], _∷_}
 use mathlib.Core.Path.{_≡_, refl, sym, ap, _∙_}
 use lib.ListN.{length}
 use Rattle.record.specs.Checks.{checks}
+use Rattle.record.specs.Codes.{Apart, among, each}
 use Rattle.record.specs.Numbers.{codeNumber}
 use Rattle.record.specs.declared.Checked.the-variants.{Refused as Stopped}
 use Rattle.record.specs.declared.Code.{Code}
@@ -21,10 +22,9 @@ use Rattle.reading.specs.declared.What.{What}
 use Rattle.reading.specs.declared.What.the-variants.{End, Error, Got}
 use Rattle.run.specs.Checked.{nextToken, nextTokenWith, ranWith, wholeRunWith}
 use Rattle.run.specs.declared.Ran.{Ran}
-use Rattle.ledger.specs.Answered.{among}
 use Rattle.ledger.specs.Books.{held}
 use Rattle.ledger.specs.Codes.{ErrorIn, isError, next-errs}
-use Rattle.callers.specs.Codes.{Apart, DoneBy, each, kept-done, not-reading, read-not}
+use Rattle.callers.specs.Codes.{DoneBy, kept-done, not-reading, read-not, readingCodes}
 use Rattle.callers.specs.Contracts.{Kept, Nexts, RunsFrom}
 use Rattle.callers.specs.Cursors.{reached-kept}
 use Rattle.callers.specs.Repeated.{Last, answers, full, repeated}
@@ -72,7 +72,7 @@ module _ (s : List ℕ) (shift limit : ℕ) (t : Tokenizer) (z : Refusal) (other
 abbrev pub isCheck : Code → Bool
 isCheck code = among (codeNumber code) (11 ∷ 12 ∷ 13 ∷ [])
 
-apart : Apart (11 ∷ 12 ∷ 13 ∷ [])
+apart : Apart readingCodes (11 ∷ 12 ∷ 13 ∷ [])
 unfolding among each
 apart = refl
 

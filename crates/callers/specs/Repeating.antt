@@ -7,6 +7,7 @@ use mathlib.Core.List.{List}
 use mathlib.Core.Path.{_≡_, refl, sym, ap, _∙_}
 use lib.ListN.{length}
 use Rattle.record.specs.Checks.{checks}
+use Rattle.record.specs.Codes.{Refuses}
 use Rattle.record.specs.declared.Checked.the-variants.{Passed}
 use Rattle.record.specs.declared.Code.{Code}
 use Rattle.record.specs.declared.Token.{Token}
@@ -20,7 +21,7 @@ use Rattle.reading.specs.declared.What.the-variants.{End, Error, Got}
 use Rattle.run.specs.Checked.{nextToken, nextTokenWith, ranWith, wholeRun, wholeRunWith}
 use Rattle.run.specs.declared.Ran.{Ran}
 use Rattle.ledger.specs.Codes.{isError}
-use Rattle.ledger.specs.Runs.{Refuses, checks-other}
+use Rattle.ledger.specs.Runs.{checks-other}
 use Rattle.ledger.specs.Books.{held}
 use Rattle.callers.specs.Boundaries.{next-boundary}
 use Rattle.callers.specs.Contracts.{Nexts, RunsFrom, isFinal}

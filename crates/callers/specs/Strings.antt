@@ -10,6 +10,7 @@ use lib.ListN.{length}
 use borrow.Author.Tests.{eqb-true}
 use Rattle.utf8.specs.Chars.{'dquote}
 use Rattle.utf8.specs.Utf8.{widthOf}
+use Rattle.record.specs.Codes.{among}
 use Rattle.record.specs.Numbers.{kindNumber}
 use Rattle.record.specs.Records.{tokenOf}
 use Rattle.record.specs.declared.Code.{Code}
@@ -36,7 +37,7 @@ use Rattle.reading.specs.declared.What.the-variants.{Error, Got}
 use Rattle.run.specs.Checked.{wholeRun}
 use Rattle.run.specs.declared.Ran.{Ran}
 use Rattle.spans.specs.Strings.{ClosedAt, string-found}
-use Rattle.ledger.specs.Answered.{SaysIn, among, first-says, hasPayload, isString}
+use Rattle.ledger.specs.Answered.{SaysIn, first-says, hasPayload, isString}
 use Rattle.ledger.specs.Books.{held}
 use Rattle.ledger.specs.Order.{Called, called, found}
 use Rattle.callers.specs.Contracts.{RunsFrom}

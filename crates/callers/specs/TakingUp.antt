@@ -7,6 +7,7 @@ use mathlib.Core.List.{List, [], _∷_, _++_}
 use mathlib.Core.Path.{_≡_, refl, sym, ap, _∙_}
 use lib.ListN.{length}
 use Rattle.record.specs.Checks.{checks}
+use Rattle.record.specs.Codes.{Apart, Refuses, among, checks-refuse, each}
 use Rattle.record.specs.Numbers.{codeNumber}
 use Rattle.record.specs.declared.Code.{Code}
 use Rattle.record.specs.declared.Refusal.{Refusal}
@@ -21,11 +22,9 @@ use Rattle.run.specs.Checked.{nextToken, ranWith, wholeRun}
 use Rattle.run.specs.Steps.{ready-of}
 use Rattle.run.specs.TakenUp.{before, taken-up}
 use Rattle.run.specs.declared.Ran.{Ran}
-use Rattle.ledger.specs.Answered.{among}
 use Rattle.ledger.specs.Books.{held}
 use Rattle.ledger.specs.Order.{found}
-use Rattle.ledger.specs.Runs.{Refuses, checks-refuse}
-use Rattle.callers.specs.Codes.{Apart, DoneBy, each, kept-done, not-reading, read-not}
+use Rattle.callers.specs.Codes.{DoneBy, kept-done, not-reading, read-not, readingCodes}
 use Rattle.callers.specs.Contracts.{Kept, RunsFrom}
 use Rattle.callers.specs.Cursors.{kept-boundary, reached-kept}
 use Rattle.callers.specs.Single.{Single, Stands, callOf, end-kept, error-kept, errorAt, limited, off, read, refused, single}
@@ -43,7 +42,7 @@ halted (Refused r) = isHalt (r .code)
 no : {A : Type 0} → false ≡ true → A
 no e = let w : _≡_ {A = ℕ} 0 1 = cc in absurd (omega arith)
 
-apart : Apart (14 ∷ 15 ∷ [])
+apart : Apart readingCodes (14 ∷ 15 ∷ [])
 unfolding among each
 apart = refl
 

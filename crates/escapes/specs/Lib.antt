@@ -3,6 +3,7 @@ pub mod Escapes
 pub mod Characters
 pub mod Answers
 pub mod Theorems
+pub mod Codes
 pub mod Examples
 -- the laws that lead there, and those that the code cites
 pub mod Passes

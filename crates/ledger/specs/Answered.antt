@@ -1,7 +1,7 @@
 -- WHAT A CALL CAN ANSWER, by a walk of all its readers, once for every question: what holds of the seven refusals that they name, and of the tokens
 -- that they make, holds of every answer.
 use Prim.Native.Nat.{_+_, _-_, suc, zero, ℕ}
-use mathlib.Core.Bool.{Bool, _||_, cond, false, true}
+use mathlib.Core.Bool.{Bool, cond, false, true}
 use mathlib.Core.List.{List, [], _∷_}
 use mathlib.Core.Path.{_≡_, refl}
 use lib.Dec.{eqb}
@@ -9,6 +9,7 @@ use lib.ListN.{drop}
 use borrow.Author.Tests.{eqb-true}
 use Rattle.utf8.specs.Utf8.{widthOf}
 use Rattle.unicode.specs.Identifier.{isIdentifierStart}
+use Rattle.record.specs.Codes.{among}
 use Rattle.record.specs.Numbers.{kindNumber}
 use Rattle.record.specs.Records.{refusal, tokenOf}
 use Rattle.record.specs.declared.Code.{Code}
@@ -41,11 +42,6 @@ use Rattle.reading.specs.declared.Attempt.the-variants.{Closed, Failed}
 use Rattle.reading.specs.declared.Call.{Call}
 use Rattle.reading.specs.declared.What.{What}
 use Rattle.reading.specs.declared.What.the-variants.{End, Error, Got}
-
--- a number is one of these
-unfoldable pub among : ℕ → List ℕ → Bool
-among n [] = false
-among n (m ∷ ms) = eqb n m || among n ms
 
 -- the kinds with a payload: code, an escape, words, literals, and an attribute
 abbrev pub hasPayload : Kind → Bool

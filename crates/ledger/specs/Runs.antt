@@ -4,19 +4,17 @@ use native.Mathlib.Omega.{arith}
 use mathlib.Core.Bool.{Bool, cond, false, true}
 use mathlib.Core.List.{List}
 use mathlib.Core.Path.{_≡_, refl}
-use lib.Dec.{ltb}
 use lib.ListN.{length}
 use Rattle.utf8.specs.Laws.{valid-whole}
-use Rattle.utf8.specs.Utf8.{boundary, chars, reach, verdict}
-use Rattle.utf8.specs.declared.Utf8.{Utf8}
-use Rattle.utf8.specs.declared.Utf8.the-variants.{Bad, Valid}
+use Rattle.utf8.specs.Utf8.{boundary, chars, reach}
 use Rattle.record.specs.Allowed.{allowed}
-use Rattle.record.specs.Checks.{checkUtf8, checks, shiftLimit, textLimit}
+use Rattle.record.specs.Checks.{checks}
+use Rattle.record.specs.Codes.{Refuses, checks-refuse}
 use Rattle.record.specs.Records.{refusal}
 use Rattle.record.specs.declared.Checked.{Checked}
 use Rattle.record.specs.declared.Checked.the-variants.{Passed, Refused as Stopped}
 use Rattle.record.specs.declared.Code.{Code}
-use Rattle.record.specs.declared.Code.the-variants.{BadRecord, NotUtf8, ShiftTooLarge, TooLong}
+use Rattle.record.specs.declared.Code.the-variants.{BadRecord}
 use Rattle.record.specs.declared.Refusal.{Refusal}
 use Rattle.reading.specs.Answers.{startState}
 use Rattle.reading.specs.Ledger.{advances-at-end, advances-bounded, stops, tiled-at-end}
@@ -27,33 +25,7 @@ use Rattle.run.specs.Checked.{countIf, runIf, wholeRun, wholeRunWith}
 use Rattle.ledger.specs.Codes.{isError}
 use Rattle.ledger.specs.Spent.{finalCall, spent, spent-run}
 
--- ---- the checks refuse for 12, 13 and 11: what holds of these codes holds of every refusal of theirs
-abbrev pub RefusesIn : (Code → Type 0) → Checked → Type 0
-RefusesIn Q Passed = Unit {0}
-RefusesIn Q (Stopped r) = Q (r .code)
-
-pub record Refuses (Q : Code → Type 0) (x : Checked) : Type 0 where
-  pub is : RefusesIn Q x
-
-module _ (Q : Code → Type 0) where
-  refuses-test : (t : Bool) (x y : Checked) → Refuses Q x → Refuses Q y → Refuses Q (cond t x y)
-  refuses-test true x y p q = p
-  refuses-test false x y p q = q
-
-  refuses-stop : (code : Code) (place : ℕ) → Q code → Refuses Q (Stopped (refusal code place))
-  refuses-stop code place e = record { is = e }
-
-  refuses-text : (shift : ℕ) (v : Utf8) → Q NotUtf8 → Refuses Q (checkUtf8 shift v)
-  refuses-text shift Valid e = record { is = tt }
-  refuses-text shift (Bad p) e = record { is = e }
-
-  pub checks-refuse : Q TooLong → Q ShiftTooLarge → Q NotUtf8 → (s : List ℕ) (shift : ℕ) → Refuses Q (checks s shift)
-  unfolding checks
-  checks-refuse long large text s shift =
-      refuses-test (ltb textLimit (length s)) _ _ (refuses-stop _ 0 long)
-      (refuses-test (ltb shiftLimit (shift + length s)) _ _ (refuses-stop _ 0 large) (refuses-text shift (verdict s) text))
-
--- none of them is an error of the reading
+-- none of the checks' codes is an error of the reading
 pub checks-other : (s : List ℕ) (shift : ℕ) → Refuses (λ (c : Code). isError c ≡ false) (checks s shift)
 checks-other s shift = checks-refuse (λ c. isError c ≡ false) refl refl refl s shift
 

@@ -4,4 +4,5 @@ pub mod Records
 pub mod Checks
 -- the laws that lead there, and those that the code cites
 pub mod Allowed
+pub mod Codes
 pub mod Stores
