@@ -392,7 +392,7 @@ module _ (P : Token → Type 0) (Q : Code → Type 0)
       where
         go : (x : Attempt) → Says P Q (hashBy o cs at x)
         go (Closed p m) = says-more m _ (record { is = rich _ o p o p refl refl })
-        go (Failed m) = says-plain _ o at m refl
+        go (Failed p m) = says-plain _ o at m refl
 
     single-says : (ks : List (ℕ × Kind)) (c at : ℕ) (x : Call) → AllPlain ks → Says P Q x → Says P Q (single ks c o at x)
     unfolding single

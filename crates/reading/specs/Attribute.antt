@@ -36,24 +36,33 @@ attributeLast b at n = Past at n
 
 abbrev pub attemptMore : ℕ → Attempt → Attempt
 attemptMore n (Closed p m) = Closed p (n + m)
-attemptMore n (Failed m) = Failed (n + m)
+attemptMore n (Failed p m) = Failed p (n + m)
+
+-- where an attempt, closed or failed, got to, and its advances
+abbrev pub placeOf : Attempt → ℕ
+placeOf (Closed p m) = p
+placeOf (Failed p m) = p
+
+abbrev pub advancesOf : Attempt → ℕ
+advancesOf (Closed p m) = m
+advancesOf (Failed p m) = m
 
 -- it is closed if it stopped at a bracket
 abbrev pub bodyBy : List ℕ → Skip → Attempt
-bodyBy cs (Past p m) = ifNext '] (drop m cs) (Closed (p + 1) (m + 1)) (Failed m)
-bodyBy cs (Lost r p m) = Failed m
+bodyBy cs (Past p m) = ifNext '] (drop m cs) (Closed (p + 1) (m + 1)) (Failed p m)
+bodyBy cs (Lost r p m) = Failed p m
 
 -- after #![, after #! and after #
 unfoldable pub attemptBody : List ℕ → ℕ → Attempt
 attemptBody cs at = bodyBy cs (walk attributeTurn attributeLast 1 cs at)
 
 unfoldable pub attemptBracket : List ℕ → ℕ → Attempt
-attemptBracket [] at = Failed 0
-attemptBracket (c ∷ cs) at = cond (eqb c '[) (attemptMore 1 (attemptBody cs (at + widthOf c))) (Failed 1)
+attemptBracket [] at = Failed at 0
+attemptBracket (c ∷ cs) at = cond (eqb c '[) (attemptMore 1 (attemptBody cs (at + widthOf c))) (Failed (at + widthOf c) 1)
 
 unfoldable pub attempt : List ℕ → ℕ → Attempt
-attempt [] at = Failed 0
-attempt (c ∷ cs) at = cond (eqb c '!) (attemptMore 1 (attemptBracket cs (at + widthOf c))) (Failed 1)
+attempt [] at = Failed at 0
+attempt (c ∷ cs) at = cond (eqb c '!) (attemptMore 1 (attemptBracket cs (at + widthOf c))) (Failed (at + widthOf c) 1)
 
 -- ODDITY. 01: "After success one further character is passed and belongs to no token, if there is one."
 -- after an attribute one further character is passed, if there is one, and belongs to no token
@@ -69,7 +78,7 @@ attributeToken o cs p = record { what = Got (tokenOf ShebangAttribute o p o p); 
 -- attempt, 7 too, never show": an attempt carries none. After a hash at o
 abbrev pub hashBy : ℕ → List ℕ → ℕ → Attempt → Call
 hashBy o cs at (Closed p m) = more m (attributeToken o (drop m cs) p)
-hashBy o cs at (Failed m) = plain Hash o at m
+hashBy o cs at (Failed p m) = plain Hash o at m
 
 unfoldable pub hash : ℕ → List ℕ → ℕ → Call
 hash o cs at = hashBy o cs at (attempt cs at)

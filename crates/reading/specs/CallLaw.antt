@@ -16,7 +16,7 @@ use Rattle.scan.specs.Walk.{walk}
 use Rattle.scan.specs.declared.Skip.{Skip}
 use Rattle.scan.specs.declared.Skip.the-variants.{Lost, Past}
 use Rattle.reading.specs.Answers.{deliver, more, plain}
-use Rattle.reading.specs.Attribute.{attempt, attemptBody, attemptBracket, attemptMore, attributeLast, attributeToken, attributeTurn, bodyBy, dropped, hash, hashBy}
+use Rattle.reading.specs.Attribute.{advancesOf, attempt, attemptBody, attemptBracket, attemptMore, attributeLast, attributeToken, attributeTurn, bodyBy, dropped, hash, hashBy, placeOf}
 use Rattle.reading.specs.Calls.{MovesIn, SpanIn, Taken, plain-taken}
 use Rattle.reading.specs.Gaps.{gap}
 use Rattle.reading.specs.Measures.{isHash, tailOf, wasted}
@@ -29,13 +29,9 @@ use Rattle.reading.specs.declared.Call.{Call}
 use Rattle.reading.specs.declared.What.{What}
 use Rattle.reading.specs.declared.What.the-variants.{End, Error, Got}
 
--- an attempt that closes leads to its place, and one that fails passes no more than there is
-abbrev TriedIn : List ℕ → ℕ → Attempt → Type 0
-TriedIn cs at (Closed p m) = Far cs at m p
-TriedIn cs at (Failed m) = m ≤ length cs
-
+-- the characters that an attempt passes, closed or failed, lead to its place
 pub record Tried (cs : List ℕ) (at : ℕ) (x : Attempt) : Type 0 where
-  pub is : TriedIn cs at x
+  pub is : Far cs at (advancesOf x) (placeOf x)
 
 tried-test : (cs : List ℕ) (at : ℕ) (t : Bool) (x y : Attempt) → Tried cs at x → Tried cs at y → Tried cs at (cond t x y)
 tried-test cs at true x y p q = p
@@ -43,24 +39,24 @@ tried-test cs at false x y p q = q
 
 tried-one : (c : ℕ) (cs : List ℕ) (at : ℕ) (x : Attempt) → Tried cs (at + widthOf c) x → Tried (c ∷ cs) at (attemptMore 1 x)
 tried-one c cs at (Closed p m) h = record { is = one-more c cs at m p (h .is) }
-tried-one c cs at (Failed m) h = let g = h .is in record { is = omega arith }
+tried-one c cs at (Failed p m) h = record { is = one-more c cs at m p (h .is) }
 
-tried-first : (c : ℕ) (cs : List ℕ) (at : ℕ) → Tried (c ∷ cs) at (Failed 1)
-tried-first c cs at = record { is = omega arith }
+tried-first : (c : ℕ) (cs : List ℕ) (at : ℕ) → Tried (c ∷ cs) at (Failed (at + widthOf c) 1)
+tried-first c cs at = record { is = one-far c cs at }
 
 tried-close : (cs : List ℕ) (at p m : ℕ) → Far cs at m p → Tried cs at (bodyBy cs (Past p m))
 unfolding ifNext widthOf
 tried-close cs at p m f = go (drop m cs) refl
   where
-    at-bracket : (c : ℕ) (l : List ℕ) → drop m cs ≡ c ∷ l → (t : Bool) → eqb c 93 ≡ t → Tried cs at (cond (eqb c 93) (Closed (p + 1) (m + 1)) (Failed m))
+    at-bracket : (c : ℕ) (l : List ℕ) → drop m cs ≡ c ∷ l → (t : Bool) → eqb c 93 ≡ t → Tried cs at (cond (eqb c 93) (Closed (p + 1) (m + 1)) (Failed p m))
     at-bracket c l e true q =
         let v : p + widthOf c ≡ p + 1 = ap (λ (j : ℕ). p + widthOf j) (eqb-true c 93 q) in
         let g : Far (drop m cs) p 1 (p + 1) = rw e (rw v at (one-far c l p)) in
         rw q (record { is = then m cs at p 1 (p + 1) f g })
-    at-bracket c l e false q = rw q (record { is = f .within })
+    at-bracket c l e false q = rw q (record { is = f })
 
-    go : (l : List ℕ) → drop m cs ≡ l → Tried cs at (ifNext 93 l (Closed (p + 1) (m + 1)) (Failed m))
-    go [] e = record { is = f .within }
+    go : (l : List ℕ) → drop m cs ≡ l → Tried cs at (ifNext 93 l (Closed (p + 1) (m + 1)) (Failed p m))
+    go [] e = record { is = f }
     go (c ∷ l) e = at-bracket c l e (eqb c 93) refl
 
 pub body-tried : (cs : List ℕ) (at : ℕ) → Tried cs at (attemptBody cs at)
@@ -69,17 +65,17 @@ body-tried cs at = go (walk attributeTurn attributeLast 1 cs at) (attribute-soun
   where
     go : (x : Skip) → Sound cs at x → Tried cs at (bodyBy cs x)
     go (Past p m) h = tried-close cs at p m (h .is)
-    go (Lost r p m) h = let f : Far cs at m p = h .is in record { is = f .within }
+    go (Lost r p m) h = record { is = h .is }
 
 pub bracket-tried : (cs : List ℕ) (at : ℕ) → Tried cs at (attemptBracket cs at)
 unfolding attemptBracket
-bracket-tried [] at = record { is = omega arith }
+bracket-tried [] at = record { is = far-none [] at }
 bracket-tried (c ∷ cs) at =
     tried-test (c ∷ cs) at (eqb c 91) _ _ (tried-one c cs at _ (body-tried cs (at + widthOf c))) (tried-first c cs at)
 
 pub attempt-tried : (cs : List ℕ) (at : ℕ) → Tried cs at (attempt cs at)
 unfolding attempt
-attempt-tried [] at = record { is = omega arith }
+attempt-tried [] at = record { is = far-none [] at }
 attempt-tried (c ∷ cs) at =
     tried-test (c ∷ cs) at (eqb c 33) _ _ (tried-one c cs at _ (bracket-tried cs (at + widthOf c))) (tried-first c cs at)
 
@@ -143,7 +139,7 @@ hash-stands c cs o q = go (attempt cs (o + widthOf c)) refl (attempt-tried cs (o
             spent = omega arith;
           };
         }
-    go (Failed m) e h = record {
+    go (Failed p m) e h = record {
       is = record {
         start = refl;
         width = 1;

@@ -293,7 +293,7 @@ module _ (P : ℕ → Type 0) (o : ℕ) (here : P o) where
       go (Closed p m) t =
           let g = far-on cs at m p (t .is) in
           inside-more m _ (record { is = (omega arith, omega arith, omega arith, omega arith, tail-on (drop m cs) p); ends = (here, a .all m p (t .is)) })
-      go (Failed m) t = inside-plain _ at m h
+      go (Failed p m) t = inside-plain _ at m h
 
   single-inside : (ks : List (ℕ × Kind)) (c at : ℕ) (x : Call) → o ≤ at → Inside P o x → Inside P o (single ks c o at x)
   unfolding single

@@ -27,7 +27,7 @@ isAttribute k = eqb (kindNumber k) 53
 -- the advances of an attempt that fails
 abbrev pub failedBy : Attempt → ℕ
 failedBy (Closed p m) = 0
-failedBy (Failed m) = m
+failedBy (Failed p m) = m
 
 -- what the failed attempt at the place o takes, if the characters from there start with a hash and the attempt fails
 unfoldable pub wasted : List ℕ → ℕ → ℕ

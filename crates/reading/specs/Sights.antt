@@ -90,10 +90,10 @@ module _ (s : List ℕ) (at p m : ℕ) where
   pub body-lands : walk attributeTurn attributeLast 1 (left s at) at ≡ Past p m → Lands s at m p
   body-lands e = lands m s at p (body-far e)
 
-  pub body-at : walk attributeTurn attributeLast 1 (left s at) at ≡ Past p m → attemptBody (left s at) at ≡ ifNext '] (left s p) (Closed (p + 1) (m + 1)) (Failed m)
+  pub body-at : walk attributeTurn attributeLast 1 (left s at) at ≡ Past p m → attemptBody (left s at) at ≡ ifNext '] (left s p) (Closed (p + 1) (m + 1)) (Failed p m)
   unfolding attemptBody
   body-at e = rw (e, far-left s at m p (body-far e))
 
-  pub body-lost : (r : Refusal) → walk attributeTurn attributeLast 1 (left s at) at ≡ Lost r p m → attemptBody (left s at) at ≡ Failed m
+  pub body-lost : (r : Refusal) → walk attributeTurn attributeLast 1 (left s at) at ≡ Lost r p m → attemptBody (left s at) at ≡ Failed p m
   unfolding attemptBody
   body-lost r e = rw e

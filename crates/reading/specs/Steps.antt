@@ -110,7 +110,7 @@ hash-most o cs at = go (attempt cs at) (attempt-tried cs at)
 
     go : (x : Attempt) → Tried cs at x → hashBy o cs at x .advances ≤ length cs
     go (Closed p m) h = let f : Far cs at m p = h .is in omega (arith, f .within, tail (drop m cs), length-drop m cs)
-    go (Failed m) h = h .is
+    go (Failed p m) h = h .is .within
 
 token-most : (cs : List ℕ) (o : ℕ) → tokenOrEnd cs o .advances ≤ length cs
 unfolding tokenOrEnd token more

@@ -101,18 +101,18 @@ weight-is n (c ∷ cs) = go (eqb c 35) (ifNext 33 cs (ifNext 91 (drop 1 cs) true
 -- a failed attempt takes no more than that
 failed-le : (cs : List ℕ) (at : ℕ) (x : Attempt) → Tried cs at x → failedBy x ≤ length cs
 failed-le cs at (Closed p m) h = omega arith
-failed-le cs at (Failed m) h = h .is
+failed-le cs at (Failed p m) h = h .is .within
 
 failed-more : (x : Attempt) → failedBy (attemptMore 1 x) ≤ 1 + failedBy x
 failed-more (Closed p m) = omega arith
-failed-more (Failed m) = omega arith
+failed-more (Failed p m) = omega arith
 
 short-bracket : (cs : List ℕ) (at : ℕ) → ifNext 91 cs true false ≡ false → failedBy (attemptBracket cs at) ≤ 1
 unfolding attemptBracket ifNext
 short-bracket [] at e = omega arith
 short-bracket (c ∷ cs) at e = go (eqb c 91) refl
   where
-    go : (t : Bool) → eqb c 91 ≡ t → failedBy (cond (eqb c 91) (attemptMore 1 (attemptBody cs (at + widthOf c))) (Failed 1)) ≤ 1
+    go : (t : Bool) → eqb c 91 ≡ t → failedBy (cond (eqb c 91) (attemptMore 1 (attemptBody cs (at + widthOf c))) (Failed (at + widthOf c) 1)) ≤ 1
     go true q = let z : true ≡ false = rw q at e in let w : _≡_ {A = ℕ} 0 1 = cc in absurd (omega arith)
     go false q = rw q (omega arith)
 
@@ -121,7 +121,7 @@ unfolding attempt ifNext
 short-attempt [] at e = omega arith
 short-attempt (c ∷ cs) at e = go (eqb c 33) refl
   where
-    go : (t : Bool) → eqb c 33 ≡ t → failedBy (cond (eqb c 33) (attemptMore 1 (attemptBracket cs (at + widthOf c))) (Failed 1)) ≤ 2
+    go : (t : Bool) → eqb c 33 ≡ t → failedBy (cond (eqb c 33) (attemptMore 1 (attemptBracket cs (at + widthOf c))) (Failed (at + widthOf c) 1)) ≤ 2
     go true q =
         let h = short-bracket cs (at + widthOf c) (rw q at e) in
         let g = failed-more (attemptBracket cs (at + widthOf c)) in

@@ -6,10 +6,10 @@ use record::Token;
 ghost use mathlib.Core.Path.{_≡_};
 ghost use Rattle.reading.specs.Answers.{deliver, plain, refuse};
 
-// An attribute attempt: closed, with the place after `]` and the characters passed; or failed, with the advances that it took.
+// An attribute attempt: closed, with the place after `]` and the characters passed; or failed, with the place that it got to and the advances that it took.
 pub enum Attempt {
     Closed(usize, usize),
-    Failed(usize),
+    Failed(usize, usize),
 }
 
 // What a call answers.

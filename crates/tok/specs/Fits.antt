@@ -11,28 +11,21 @@ use Rattle.utf8.specs.Laws.{Seen, ended, seen}
 use Rattle.utf8.specs.Utf8.{sightAt, widthOf}
 use Rattle.utf8.specs.declared.Sight.{Sight}
 use Rattle.utf8.specs.declared.Sight.the-variants.{Char, End as SightEnd}
-use Rattle.scan.specs.Far.{Far, fits}
+use Rattle.scan.specs.Far.{fits}
 use Rattle.scan.specs.IfNext.{ifNext}
 use Rattle.scan.specs.Until.{left}
-use Rattle.reading.specs.Attribute.{attempt, attemptBody, attemptBracket, dropped}
+use Rattle.reading.specs.Attribute.{advancesOf, attempt, attemptBody, attemptBracket, dropped}
 use Rattle.reading.specs.CallLaw.{Tried, attempt-tried, body-tried, bracket-tried}
 use Rattle.reading.specs.Calls.{Fair}
 use Rattle.reading.specs.declared.Attempt.{Attempt}
-use Rattle.reading.specs.declared.Attempt.the-variants.{Closed, Failed}
 use Rattle.reading.specs.declared.Call.{Call}
 
 -- the advances of a fair call are no more than the bytes of the text
 pub fair-fits : {o : ℕ} (s : List ℕ) (at : ℕ) {x y : Call} → x ≡ y → Fair o (left s at) at y → x .advances ≤ length s
 fair-fits s at {x} {y} e h = omega (arith, ap (λ (z : Call). z .advances) e, h .far .within, fits s at)
 
--- the advances of an attempt
-abbrev pub advancesOf : Attempt → ℕ
-advancesOf (Closed p m) = m
-advancesOf (Failed m) = m
-
 tried-most : (s : List ℕ) (at : ℕ) (x : Attempt) → Tried (left s at) at x → advancesOf x ≤ length s
-tried-most s at (Closed p m) h = let f : Far (left s at) at m p = h .is in omega (arith, f .within, fits s at)
-tried-most s at (Failed m) h = let f : m ≤ length (left s at) = h .is in omega (arith, fits s at)
+tried-most s at x h = omega (arith, h .is .within, fits s at)
 
 module _ (s : List ℕ) (at : ℕ) where
   pub body-most : advancesOf (attemptBody (left s at) at) ≤ length s

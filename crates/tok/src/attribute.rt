@@ -12,8 +12,7 @@ ghost use Prim.Native.Nat.{ℕ, _+_, _-_, _<_, _≤_};
 ghost use Rattle.scan.specs.Until.{left};
 ghost use Rattle.scan.specs.Far.{after};
 ghost use Rattle.scan.specs.Walk.{walk, walkFrom};
-ghost use Rattle.reading.specs.Attribute.{attributeTurn, attributeLast, attemptMore, attemptBody, attemptBracket, attempt, dropped, attributeToken, hash};
-ghost use Rattle.tok.specs.Fits.{advancesOf};
+ghost use Rattle.reading.specs.Attribute.{advancesOf, attributeTurn, attributeLast, attemptMore, attemptBody, attemptBracket, attempt, dropped, attributeToken, hash};
 
 // What the character c at a place does, with b brackets open: the balancing bracket and a newline stop, strings are read whole.
 fn attribute_turn(s: &[u8], at: usize, next: usize, c: u32, b: usize) -> Turn
@@ -106,9 +105,9 @@ fn attempt_body(s: &[u8], at: usize) -> Attempt
             if is_next(s, p, signs::RIGHT_BRACKET) {
                 return Attempt::Closed(p + 1, m + 1);
             }
-            Attempt::Failed(m)
+            Attempt::Failed(p, m)
         }
-        Skip::Lost(_, _, m) => Attempt::Failed(m),
+        Skip::Lost(_, p, m) => Attempt::Failed(p, m),
     }
 }
 
@@ -119,7 +118,7 @@ fn one_more(x: Attempt) -> Attempt
 {
     match x {
         Attempt::Closed(p, m) => Attempt::Closed(p, 1 + m),
-        Attempt::Failed(m) => Attempt::Failed(1 + m),
+        Attempt::Failed(p, m) => Attempt::Failed(p, 1 + m),
     }
 }
 
@@ -132,9 +131,9 @@ fn attempt_bracket(s: &[u8], at: usize) -> Attempt
             if code == signs::LEFT_BRACKET {
                 return one_more(attempt_body(s, at + width));
             }
-            Attempt::Failed(1)
+            Attempt::Failed(at + width, 1)
         }
-        Sight::End => Attempt::Failed(0),
+        Sight::End => Attempt::Failed(at, 0),
     }
 }
 
@@ -147,9 +146,9 @@ fn shebang_attribute(s: &[u8], at: usize) -> Attempt
             if code == signs::BANG {
                 return one_more(attempt_bracket(s, at + width));
             }
-            Attempt::Failed(1)
+            Attempt::Failed(at + width, 1)
         }
-        Sight::End => Attempt::Failed(0),
+        Sight::End => Attempt::Failed(at, 0),
     }
 }
 
@@ -192,6 +191,6 @@ pub fn hash(s: &[u8], o: usize, at: usize) -> Call
 {
     match shebang_attribute(s, at) {
         Attempt::Closed(p, m) => crate::more(m, attribute_token(s, o, p)),
-        Attempt::Failed(m) => reading::plain(Kind::Hash, o, at, m),
+        Attempt::Failed(_, m) => reading::plain(Kind::Hash, o, at, m),
     }
 }

@@ -40,23 +40,23 @@ enum-known-p c = search needs
 is-next-requires : tie.Need-is-next-requires
 is-next-requires c κs = search needs
 
-add-t9 : tie.Need-add-t9
-add-t9 c = omega (arith, next-room (S (c .before .before)) (P (c .before .before)) '] (sym (c .before .is-next .ensures) ∙ c .if1 .taken))
-
 add-t10 : tie.Need-add-t10
-add-t10 c = let l = body-lands (S (c .before .before)) (O (c .before .before)) (P (c .before .before)) (M (c .before .before)) (stopped (c .before .before)) in omega (arith, l .gone, next-room (S (c .before .before)) (P (c .before .before)) '] (sym (c .before .is-next .ensures) ∙ c .if1 .taken))
+add-t10 c = omega (arith, next-room (S (c .before .before)) (P (c .before .before)) '] (sym (c .before .is-next .ensures) ∙ c .if1 .taken))
+
+add-t11 : tie.Need-add-t11
+add-t11 c = let l = body-lands (S (c .before .before)) (O (c .before .before)) (P (c .before .before)) (M (c .before .before)) (stopped (c .before .before)) in omega (arith, l .gone, next-room (S (c .before .before)) (P (c .before .before)) '] (sym (c .before .is-next .ensures) ∙ c .if1 .taken))
 
 returns : tie.Need-returns
 returns c = rw (body-at (S (c .before .before)) (O (c .before .before)) (P (c .before .before)) (M (c .before .before)) (stopped (c .before .before))) (search nexts)
 
-enum-known-m : tie.Need-enum-known-m
-enum-known-m c = search needs
+enum-known-p-2 : tie.Need-enum-known-p-2
+enum-known-p-2 c = search needs
 
 returns-2 : tie.Need-returns-2
 returns-2 c = rw (body-at (S (c .before .before)) (O (c .before .before)) (P (c .before .before)) (M (c .before .before)) (stopped (c .before .before))) (search nexts)
 
 returns-3 : tie.Need-returns-3
-returns-3 c = sym (body-lost (c .before .before .before .before .before .args .s .now) (c .before .before .before .before .before .args .at) _ _ _ (sym (c .before .before .before .body-end .ensures) ∙ c .before .m .given .1))
+returns-3 c = sym (body-lost (c .before .before .before .before .before .args .s .now) (c .before .before .before .before .before .args .at) _ _ _ (sym (c .before .before .before .body-end .ensures) ∙ c .before .p2 .given .1))
 
 pub attempt-body-spec : {M : Type 1} → statement M
-attempt-body-spec = tie.close (tie.spec body-end-requires enum-known-p is-next-requires add-t9 add-t10 returns enum-known-m returns-2 returns-3)
+attempt-body-spec = tie.close (tie.spec body-end-requires enum-known-p is-next-requires add-t10 add-t11 returns enum-known-p-2 returns-2 returns-3)

@@ -5,8 +5,8 @@ use native.Mathlib.Omega.{arith}
 use borrow.Author.Needs.{needs}
 use Rattle.utf8.specs.Laws.{Seen, ended, seen}
 use Rattle.utf8.specs.Picks.{picks}
-use Rattle.reading.specs.Attribute.{attemptMore, attemptBracket}
-use Rattle.tok.specs.Fits.{advancesOf, body-most}
+use Rattle.reading.specs.Attribute.{advancesOf, attemptMore, attemptBracket}
+use Rattle.tok.specs.Fits.{body-most}
 use Rattle.tok.proofs.attribute.attempt_bracket.Statement.{statement}
 use Rattle.tok.proofs.attribute.attempt_bracket.Tie as tie
 
@@ -32,16 +32,19 @@ returns : tie.Need-returns
 unfolding attemptBracket
 returns c = let h = here (c .before .before .before) in let e = c .one-more .ensures ∙ ap (attemptMore 1) (c .before .attempt-body .ensures) in rw (h .next, ← (h .width)) (search picks)
 
+add-t10 : tie.Need-add-t10
+add-t10 c = omega (arith, here (c .before))
+
 enum-told : tie.Need-enum-told
 enum-told c = search needs
 
 returns-2 : tie.Need-returns-2
 unfolding attemptBracket
-returns-2 c = let h = here (c .before) in rw (h .next) (search picks)
+returns-2 c = let h = here (c .before) in rw (h .next, ← (h .width)) (search picks)
 
 returns-3 : tie.Need-returns-3
 unfolding attemptBracket
 returns-3 c = rw ((ended _ _ (sym (c .before .before .char-at .ensures) ∙ c .enum-told .given .1)) .none)
 
 pub attempt-bracket-spec : {M : Type 1} → statement M
-attempt-bracket-spec = tie.close (tie.spec char-at-requires enum-known-code add-attempt-body attempt-body-requires one-more-requires returns enum-told returns-2 returns-3)
+attempt-bracket-spec = tie.close (tie.spec char-at-requires enum-known-code add-attempt-body attempt-body-requires one-more-requires returns add-t10 enum-told returns-2 returns-3)

@@ -6,8 +6,8 @@ use lib.ListN.{drop}
 use borrow.Author.Needs.{needs}
 use Rattle.utf8.specs.Utf8.{chars}
 use Rattle.reading.specs.Answers.{more}
-use Rattle.reading.specs.Attribute.{attributeToken, hash, hashBy}
-use Rattle.tok.specs.Fits.{advancesOf, attempt-most, dropped-most}
+use Rattle.reading.specs.Attribute.{advancesOf, attributeToken, hash, hashBy}
+use Rattle.tok.specs.Fits.{attempt-most, dropped-most}
 use Rattle.reading.specs.Steps.{hash-closed}
 use Rattle.reading.specs.declared.Call.{Call}
 use Rattle.tok.proofs.attribute.hash.Statement.{statement}

@@ -5,8 +5,8 @@ use native.Mathlib.Omega.{arith}
 use borrow.Author.Needs.{needs}
 use Rattle.utf8.specs.Laws.{Seen, ended, seen}
 use Rattle.utf8.specs.Picks.{picks}
-use Rattle.reading.specs.Attribute.{attemptMore, attempt}
-use Rattle.tok.specs.Fits.{advancesOf, bracket-most}
+use Rattle.reading.specs.Attribute.{advancesOf, attemptMore, attempt}
+use Rattle.tok.specs.Fits.{bracket-most}
 use Rattle.tok.proofs.attribute.shebang_attribute.Statement.{statement}
 use Rattle.tok.proofs.attribute.shebang_attribute.Tie as tie
 
@@ -32,16 +32,19 @@ returns : tie.Need-returns
 unfolding attempt
 returns c = let h = here (c .before .before .before) in let e = c .one-more .ensures ∙ ap (attemptMore 1) (c .before .attempt-bracket .ensures) in rw (h .next, ← (h .width)) (search picks)
 
+add-t10 : tie.Need-add-t10
+add-t10 c = omega (arith, here (c .before))
+
 enum-told : tie.Need-enum-told
 enum-told c = search needs
 
 returns-2 : tie.Need-returns-2
 unfolding attempt
-returns-2 c = let h = here (c .before) in rw (h .next) (search picks)
+returns-2 c = let h = here (c .before) in rw (h .next, ← (h .width)) (search picks)
 
 returns-3 : tie.Need-returns-3
 unfolding attempt
 returns-3 c = rw ((ended _ _ (sym (c .before .before .char-at .ensures) ∙ c .enum-told .given .1)) .none)
 
 pub shebang-attribute-spec : {M : Type 1} → statement M
-shebang-attribute-spec = tie.close (tie.spec char-at-requires enum-known-code add-attempt-bracket attempt-bracket-requires one-more-requires returns enum-told returns-2 returns-3)
+shebang-attribute-spec = tie.close (tie.spec char-at-requires enum-known-code add-attempt-bracket attempt-bracket-requires one-more-requires returns add-t10 enum-told returns-2 returns-3)
