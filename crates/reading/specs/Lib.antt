@@ -23,3 +23,4 @@ pub mod Steps
 pub mod Reached
 pub mod Inside
 pub mod Sights
+pub mod Own
