@@ -27,7 +27,7 @@ use Rattle.reading.specs.declared.Tokenizer.{Tokenizer}
 use Rattle.reading.specs.declared.What.{What}
 use Rattle.reading.specs.declared.What.the-variants.{End, Error, Got}
 use Rattle.run.specs.Checked.{wholeRun, wholeRunWith}
-use Rattle.run.specs.Steps.{boundary-within, ready-of}
+use Rattle.run.specs.Steps.{boundary-within, ready-of, step-runs}
 use Rattle.run.specs.TakenUp.{before, taken-up}
 use Rattle.ledger.specs.Order.{placed}
 use Rattle.ledger.specs.Payloads.{On, on-far}
@@ -37,12 +37,6 @@ not-refused z e = let w : _≡_ {A = ℕ} 0 1 = cc in absurd (omega arith)
 
 not-ended : {A : Type 0} → Ended ≡ Running → A
 not-ended e = let w : _≡_ {A = ℕ} 0 1 = cc in absurd (omega arith)
-
-error-got : {A : Type 0} (z : Refusal) (y : Token) → Error z ≡ Got y → A
-error-got z y e = let w : _≡_ {A = ℕ} 0 1 = cc in absurd (omega arith)
-
-end-got : {A : Type 0} (y : Token) → End ≡ Got y → A
-end-got y e = let w : _≡_ {A = ℕ} 0 1 = cc in absurd (omega arith)
 
 -- ---- the cursor of a tokenizer that is still running is a place that calls came to
 module _ (s : List ℕ) (shift limit : ℕ) (t : Tokenizer) where
@@ -67,24 +61,6 @@ module _ (s : List ℕ) (shift limit : ℕ) (t : Tokenizer) where
   step-on : On s (t .at) → step s shift limit t .next .done ≡ Running → On s (step s shift limit t .next .at)
   unfolding stepWith
   step-on o e = in-on (t .done) o e
-
-  -- a token leaves it running
-  by-runs : (y : Token) → stepBy shift limit t (next (left s (t .at)) (t .at)) .what ≡ Got y → stepBy shift limit t (next (left s (t .at)) (t .at)) .next .done ≡ Running
-  by-runs y = go (ltb limit (t .count + next (left s (t .at)) (t .at) .advances)) refl
-    where
-      go : (b : Bool) → ltb limit (t .count + next (left s (t .at)) (t .at) .advances) ≡ b
-          → stepBy shift limit t (next (left s (t .at)) (t .at)) .what ≡ Got y → stepBy shift limit t (next (left s (t .at)) (t .at)) .next .done ≡ Running
-      go true q e = error-got _ y (rw q at e)
-      go false q e = let f = rw q at e in rw q (ap doneBy f)
-
-  in-runs : (d : Outcome) (y : Token) → stepIn d s shift limit t .what ≡ Got y → stepIn d s shift limit t .next .done ≡ Running
-  in-runs Running y e = by-runs y e
-  in-runs Ended y e = end-got y e
-  in-runs (Refused z) y e = error-got z y e
-
-  step-runs : (y : Token) → step s shift limit t .what ≡ Got y → step s shift limit t .next .done ≡ Running
-  unfolding stepWith
-  step-runs y e = in-runs (t .done) y e
 
 module _ (s : List ℕ) (shift limit : ℕ) where
   abbrev Stays : Run → Type 0

@@ -3,7 +3,7 @@ use Prim.Native.Nat.{ℕ, suc, _+_, _*_, _/_, _<_, _≤_}
 use mathlib.Core.Bool.{true, false}
 use native.Mathlib.Omega.{arith}
 use mathlib.Core.List.{List, [], _∷_, _++_, append-assoc, append-nil}
-use mathlib.Core.Path.{_≡_, refl, sym, ap, _∙_}
+use mathlib.Core.Path.{_≡_, refl, sym, ap, subst, _∙_}
 use lib.ListN.{length, set}
 use lib.Seq.{sets}
 use Rattle.utf8.specs.Utf8.{boundary}
@@ -15,17 +15,18 @@ use Rattle.record.specs.declared.Checked.the-variants.{Passed, Refused as Stopp
 use Rattle.record.specs.declared.Code.the-variants.{BadRecord}
 use Rattle.record.specs.declared.Refusal.{Refusal}
 use Rattle.record.specs.declared.Token.{Token}
-use Rattle.reading.specs.Run.{Run}
-use Rattle.reading.specs.declared.Outcome.the-variants.{Refused}
+use Rattle.reading.specs.Run.{Run, run, stopped}
+use Rattle.reading.specs.declared.Outcome.{Outcome}
+use Rattle.reading.specs.declared.Outcome.the-variants.{Refused, Running}
 use Rattle.reading.specs.declared.Tokenizer.{Tokenizer}
 use Rattle.run.specs.Checked.{ranOf, ranWith, wholeRun, wholeRunWith}
 use Rattle.run.specs.Numbers.{groupSize, numbersAll, numbersOf}
-use Rattle.run.specs.Pending.{advanceOf, beginOf, halted, pendOf}
+use Rattle.run.specs.Pending.{advanceOf, beginOf, halted, pendOf, running, runs-as}
 use Rattle.run.specs.Room.{Ready}
 use Rattle.run.specs.Steps.{ready-of}
 use Rattle.run.specs.declared.Pending.{Pending}
 use Rattle.run.specs.declared.Ran.{Ran}
-use Rattle.run.proofs.Turns.{Core, core-end, core-start, core-turn, pend-goes}
+use Rattle.run.proofs.Turns.{Core, core-end, core-start, core-turn, pend-goes, pend-runs}
 
 pub all-length : (ts : List Token) → length (numbersAll ts) ≡ groupSize * length ts
 unfolding numbersAll
@@ -112,13 +113,15 @@ module _ (s : List ℕ) (shift limit room : ℕ) (t₀ : Tokenizer) (xs : List �
     asking-space g = let o = here .core .going-on g in omega (arith, o .space, stored)
 
     pub asking-turn : p .going ≡ true → (ys′ : List ℕ) → ys′ ≡ sets ys (groupSize * n) (numbersOf (p .token))
-        → Asking s shift limit room t₀ xs (n + 1) (p .ran .state) ys′
+        → Asking s shift limit room t₀ xs (n + 1) (running (p .ran .state .at) (p .ran .state .count)) ys′
     unfolding advanceOf
     asking-turn g ys′ f =
-        record {
+        let d : p .ran .state .done ≡ Running = rw q (pend-runs s shift limit room n t (rw q at g)) in
+        subst (λ (u : Tokenizer). Asking s shift limit room t₀ xs (n + 1) u ys′) (runs-as (p .ran .state) d)
+        (record {
           ready = here .core .going-on g .ready;
           pending = numbered-turn s shift limit room t₀ xs p ys here g (pendOf s shift limit room (n + 1) (p .ran .state)) ys′ (rw stored) (rw stored f);
-        }
+        })
 
     pub asking-end : p .going ≡ false → room ≡ length xs / groupSize
         → (p .ran ≡ ranOf s shift limit room t₀) × (ys ≡ over (numbersAll (wholeRun s shift limit room t₀ .tokens)) xs)
@@ -135,3 +138,9 @@ module _ (s : List ℕ) (shift limit room : ℕ) (t₀ : Tokenizer) (xs : List �
       → (halted 0 (Refused (refusal BadRecord 0)) (t₀ .count) t₀ .ran ≡ ranOf s shift limit room t₀) × (xs ≡ over (numbersAll (wholeRun s shift limit room t₀ .tokens)) xs)
   unfolding ranWith wholeRunWith numbersAll
   off-run e b = rw (e, b) (refl, refl)
+
+  -- .. nor by a run that stops at once, as that of a tokenizer does that has ended or was refused
+  pub idle-run : (d : Outcome) → checks s shift ≡ Passed → boundary s (t₀ .at) ≡ true → run s shift limit room t₀ ≡ stopped d t₀
+      → (halted 0 d (t₀ .count) t₀ .ran ≡ ranOf s shift limit room t₀) × (xs ≡ over (numbersAll (wholeRun s shift limit room t₀ .tokens)) xs)
+  unfolding ranWith wholeRunWith numbersAll
+  idle-run d e b q = rw (e, b) (rw q (refl, refl))

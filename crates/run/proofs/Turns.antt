@@ -30,7 +30,7 @@ use Rattle.reading.specs.declared.What.the-variants.{End, Error, Got}
 use Rattle.run.specs.Checked.{countIf, ranOf, ranWith, report, runIf, wholeRun, wholeRunWith}
 use Rattle.run.specs.Pending.{advanceOf, beginIf, beginOf, goes, halted, pendBy, pendOf}
 use Rattle.run.specs.Room.{Onward, Ready}
-use Rattle.run.specs.Steps.{ready-of, step-ready}
+use Rattle.run.specs.Steps.{ready-of, step-ready, step-runs}
 use Rattle.run.specs.TakenUp.{before, never-running}
 use Rattle.run.specs.declared.Pending.{Pending}
 use Rattle.run.specs.declared.Ran.{Ran}
@@ -87,6 +87,16 @@ module _ (s : List ℕ) (shift limit room : ℕ) where
     pub pend-goes : Goes (step s shift limit t .next) (pendOf s shift limit room n t)
     unfolding pendOf
     pend-goes = by-goes (step s shift limit t .what) (step s shift limit t .next)
+
+    -- .. and it runs
+    by-runs : (w : What) → step s shift limit t .what ≡ w → pendBy w room n t (step s shift limit t .next) .going ≡ true → step s shift limit t .next .done ≡ Running
+    by-runs (Got y) e g = step-runs s shift limit t y e
+    by-runs (Error r) e g = no g
+    by-runs End e g = no g
+
+    pub pend-runs : pendOf s shift limit room n t .going ≡ true → pendOf s shift limit room n t .ran .state .done ≡ Running
+    unfolding pendOf
+    pend-runs g = ap (λ (u : Tokenizer). u .done) (pend-goes .2 g .1) ∙ by-runs (step s shift limit t .what) refl g
 
 -- ---- what holds at a turn: the tokens `done` are stored, and the pending token p leads to the rest of the run
 pub record Core (s : List ℕ) (shift limit room : ℕ) (t₀ : Tokenizer) (k : ℕ) (p : Pending) (done : List Token) : Type 0 where

@@ -2,6 +2,7 @@
 use Prim.Native.Nat.{ℕ, _+_}
 use mathlib.Core.Bool.{true, false, cond}
 use mathlib.Core.List.{List}
+use mathlib.Core.Path.{_≡_, ap}
 use lib.Dec.{ltb}
 use Rattle.utf8.specs.Utf8.{boundary}
 use Rattle.record.specs.Checks.{checks}
@@ -20,6 +21,13 @@ use Rattle.reading.specs.declared.What.{What}
 use Rattle.reading.specs.declared.What.the-variants.{End, Error, Got}
 use Rattle.run.specs.Checked.{countIf}
 use Rattle.run.specs.declared.Pending.{Pending}
+
+-- a tokenizer that runs
+abbrev pub running : ℕ → ℕ → Tokenizer
+running at count = record { at = at; count = count; done = Running }
+
+pub runs-as : (t : Tokenizer) → t .done ≡ Running → t ≡ running (t .at) (t .count)
+runs-as t d = ap (λ (o : Outcome). record { at = t .at; count = t .count; done = o }) d
 
 abbrev pub noToken : Token
 noToken = tokenOf Enum 0 0 0 0

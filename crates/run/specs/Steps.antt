@@ -11,10 +11,12 @@ use Rattle.utf8.specs.Utf8.{boundary, chars}
 use Rattle.record.specs.Allowed.{Allowed, allowed}
 use Rattle.record.specs.Checks.{checks}
 use Rattle.record.specs.declared.Checked.the-variants.{Passed}
+use Rattle.record.specs.declared.Refusal.{Refusal}
+use Rattle.record.specs.declared.Token.{Token}
 use Rattle.scan.specs.Until.{left}
 use Rattle.reading.specs.Inside.{Inside, InsideIn, next-inside}
 use Rattle.reading.specs.Next.{next}
-use Rattle.reading.specs.Run.{step, stepBy, stepIn, stepWith}
+use Rattle.reading.specs.Run.{doneBy, step, stepBy, stepIn, stepWith}
 use Rattle.reading.specs.Steps.{Within, call-within}
 use Rattle.reading.specs.declared.Outcome.{Outcome}
 use Rattle.reading.specs.declared.Outcome.the-variants.{Ended, Refused, Running}
@@ -74,6 +76,32 @@ module _ (s : List ℕ) (shift limit : ℕ) (t : Tokenizer) (r : Ready s shift t
 pub step-running : (s : List ℕ) (shift limit : ℕ) (t : Tokenizer) → t .done ≡ Running → step s shift limit t ≡ stepBy shift limit t (next (left s (t .at)) (t .at))
 unfolding stepWith
 step-running s shift limit t d = rw d
+
+-- a token is no error, and not the end
+pub got-error : {A : Type 0} (x : Token) (z : Refusal) → Error z ≡ Got x → A
+got-error x z e = let w : _≡_ {A = ℕ} 0 1 = cc in absurd (omega arith)
+
+pub got-end : {A : Type 0} (x : Token) → End ≡ Got x → A
+got-end x e = let w : _≡_ {A = ℕ} 0 1 = cc in absurd (omega arith)
+
+-- a token leaves the tokenizer running
+module _ (s : List ℕ) (shift limit : ℕ) (t : Tokenizer) (y : Token) where
+  by-runs : stepBy shift limit t (next (left s (t .at)) (t .at)) .what ≡ Got y → stepBy shift limit t (next (left s (t .at)) (t .at)) .next .done ≡ Running
+  by-runs = go (ltb limit (t .count + next (left s (t .at)) (t .at) .advances)) refl
+    where
+      go : (b : Bool) → ltb limit (t .count + next (left s (t .at)) (t .at) .advances) ≡ b
+          → stepBy shift limit t (next (left s (t .at)) (t .at)) .what ≡ Got y → stepBy shift limit t (next (left s (t .at)) (t .at)) .next .done ≡ Running
+      go true q e = got-error y _ (rw q at e)
+      go false q e = let f = rw q at e in rw q (ap doneBy f)
+
+  in-runs : (d : Outcome) → stepIn d s shift limit t .what ≡ Got y → stepIn d s shift limit t .next .done ≡ Running
+  in-runs Running e = by-runs e
+  in-runs Ended e = got-end y e
+  in-runs (Refused z) e = got-error y z e
+
+  pub step-runs : step s shift limit t .what ≡ Got y → step s shift limit t .next .done ≡ Running
+  unfolding stepWith
+  step-runs e = in-runs (t .done) e
 
 -- a payload's places lie in the text
 pub record Ranged (s : List ℕ) (shift from to : ℕ) : Type 0 where

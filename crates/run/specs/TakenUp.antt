@@ -27,18 +27,13 @@ use Rattle.reading.specs.declared.Tokenizer.{Tokenizer}
 use Rattle.reading.specs.declared.What.{What}
 use Rattle.reading.specs.declared.What.the-variants.{End, Error, Got}
 use Rattle.run.specs.Room.{Ready}
+use Rattle.run.specs.Steps.{got-end, got-error}
 
 -- the tokens ts before those of a run
 abbrev pub before : List Token → Run → Run
 before ts r = record { tokens = ts ++ r .tokens; how = r .how; state = r .state }
 
 -- ---- a step that goes on, under a higher limit, and one that stops
-got-error : {A : Type 0} (x : Token) (z : Refusal) → Error z ≡ Got x → A
-got-error x z e = let w : _≡_ {A = ℕ} 0 1 = cc in absurd (omega arith)
-
-got-end : {A : Type 0} (x : Token) → End ≡ Got x → A
-got-end x e = let w : _≡_ {A = ℕ} 0 1 = cc in absurd (omega arith)
-
 module _ (call : List ℕ → ℕ → Call) (s : List ℕ) (shift limit limit′ : ℕ) (h : limit ≤ limit′) (t : Tokenizer) where
   by-higher : (x : Call) (y : Token) → stepBy shift limit t x .what ≡ Got y → stepBy shift limit′ t x ≡ stepBy shift limit t x
   by-higher x y e = go (ltb limit (t .count + x .advances)) refl

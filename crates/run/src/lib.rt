@@ -24,7 +24,7 @@ ghost use Rattle.reading.specs.declared.What.the-variants.{Got};
 ghost use Rattle.run.specs.Checked.{nextToken, ranOf, wholeRun};
 ghost use Rattle.run.specs.Numbers.{groupSize, numbersAll, numbersOf};
 ghost use Rattle.run.specs.Payload.{isPayload, payload, payloadCheck};
-ghost use Rattle.run.specs.Pending.{advanceOf, beginOf, goes, halted, pendOf};
+ghost use Rattle.run.specs.Pending.{advanceOf, beginOf, goes, halted, pendOf, running};
 ghost use Rattle.run.specs.Room.{Onward, Ready, Roomy, RoomyIn};
 
 // How a run ended: how many records it stored, how it stopped, the advances, and the tokenizer after it.
@@ -340,24 +340,60 @@ fn put_group(records: &mut [u64], i: usize, t: Token)
     records[p + 4] = t.payload_end;
 }
 
-// The run itself, for a text and a tokenizer that passed the checks. Here alone the next token is asked for and stored, in one loop.
-fn store_all(text: &[u8], shift: u64, limit: u64, records: &mut [u64], from: Tokenizer) -> Ran
-    requires { ⌜ (checks (now text) shift ≡ Passed) × (boundary (now text) (from .at) ≡ true) ⌝ }
-    ensures { λ r. ⌜ (r ≡ ranOf (now (text .entry)) shift limit (length (now (records .entry)) / groupSize) from) × (now (records .exit) ≡ over (numbersAll (wholeRun (now (text .entry)) shift limit (length (now (records .entry)) / groupSize) from .tokens)) (now (records .entry))) ⌝ }
+// The run itself, for a text and a running tokenizer that passed the checks. Here alone the next token is asked for and stored, in one loop.
+// The tokenizer is two numbers there: as a whole, its `done` would be copied and asked again for each token.
+fn store_on(
+    text: &[u8],
+    shift: u64,
+    limit: u64,
+    records: &mut [u64],
+    from: u64,
+    counted: u64,
+) -> Ran
+    requires { ⌜ (checks (now text) shift ≡ Passed) × (boundary (now text) from ≡ true) ⌝ }
+    ensures { λ r. ⌜ (r ≡ ranOf (now (text .entry)) shift limit (length (now (records .entry)) / groupSize) (running from counted)) × (now (records .exit) ≡ over (numbersAll (wholeRun (now (text .entry)) shift limit (length (now (records .entry)) / groupSize) (running from counted) .tokens)) (now (records .entry))) ⌝ }
 {
     let room = records.len() / GROUP_SIZE;
     let mut n: usize = 0;
-    let mut t = from;
+    let mut at = from;
+    let mut count = counted;
     loop {
+        let t = Tokenizer {
+            at,
+            count,
+            done: Outcome::Running,
+        };
         let p = pend(text, shift, limit, room, n, t);
         let ran = p.ran;
         if p.going {
             let token = p.token;
             put_group(records, n, token);
             n += 1;
-            t = ran.state;
+            let after = ran.state;
+            at = after.at;
+            count = after.count;
         } else {
             return ran;
+        }
+    }
+}
+
+// The same from any tokenizer: one that has ended or was refused stores nothing.
+fn store_all(text: &[u8], shift: u64, limit: u64, records: &mut [u64], from: Tokenizer) -> Ran
+    requires { ⌜ (checks (now text) shift ≡ Passed) × (boundary (now text) (from .at) ≡ true) ⌝ }
+    ensures { λ r. ⌜ (r ≡ ranOf (now (text .entry)) shift limit (length (now (records .entry)) / groupSize) from) × (now (records .exit) ≡ over (numbersAll (wholeRun (now (text .entry)) shift limit (length (now (records .entry)) / groupSize) from .tokens)) (now (records .entry))) ⌝ }
+{
+    let count = from.count;
+    let done = from.done;
+    match done {
+        Outcome::Running => store_on(text, shift, limit, records, from.at, count),
+        Outcome::Ended => {
+            let p = halted(0, Outcome::Ended, count, from);
+            p.ran
+        }
+        Outcome::Refused(r) => {
+            let p = halted(0, Outcome::Refused(r), count, from);
+            p.ran
         }
     }
 }

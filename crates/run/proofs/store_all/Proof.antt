@@ -1,61 +1,59 @@
--- `run::store_all` meets its contract: the turns are the run's (Turns.antt), and each stores one group (Groups.antt).
-use Prim.Native.Nat.{ℕ, _-_, _/_}
-use native.Mathlib.Omega.{arith}
+-- `run::store_all` meets its contract.
 use borrow.Author.Needs.{needs}
-use mathlib.Core.Path.{_≡_, refl, ap, _∙_}
-use lib.ListN.{length}
-use lib.Seq.{length-sets}
-use Rattle.run.specs.Numbers.{groupSize}
-use Rattle.run.proofs.Groups.{Asking, asking-end, asking-space, asking-start, asking-turn}
+use mathlib.Core.Path.{ap, _∙_}
+use Rattle.reading.specs.Story.{again-end, again-error}
+use Rattle.run.specs.Pending.{runs-as}
+use Rattle.run.specs.declared.Pending.{Pending}
+use Rattle.run.proofs.Groups.{idle-run}
 use Rattle.run.proofs.store_all.Statement.{statement}
 use Rattle.run.proofs.store_all.Tie as tie
 use Rattle.run.proofs.store_all.Reads as reads
 use Rattle.run.proofs.store_all.Lts as lts
-use Rattle.run.proofs.pend.Reads as pend-reads
-use Rattle.run.proofs.put_group.Reads as put-group-reads
+use Rattle.run.proofs.halted.Reads as halted-reads
+use Rattle.run.proofs.store_on.Reads as store-on-reads
 
-abbrev Inv-loop : tie.InvT-loop
-Inv-loop text shift limit records₀ room n₀ t₀ records n t =
-    (length records ≡ length records₀) × (room ≡ length records₀ / groupSize) × Asking text shift limit room t₀ records₀ n t records
+enum-told : tie.Need-enum-told
+enum-told c = search needs
 
-abbrev μ-loop : tie.MeasureT-loop
-μ-loop text shift limit records₀ room n₀ t₀ records n t = room - n
+store-on-requires : tie.Need-store-on-requires
+store-on-requires c κs = search needs
 
-loop-holds : tie.Need-loop-holds Inv-loop μ-loop
-loop-holds c = (refl, refl, asking-start _ _ _ _ _ _ (c .before .before .pre .0) (c .before .before .pre .1))
+enum-told-2 : tie.Need-enum-told-2
+enum-told-2 c = search needs
 
-pend-requires : tie.Need-pend-requires Inv-loop μ-loop
-pend-requires c κs = c .loop .inv .2 .ready
+halted-requires : tie.Need-halted-requires
+halted-requires c κs = search needs
 
-put-group-requires : tie.Need-put-group-requires Inv-loop μ-loop
-put-group-requires c κs = let l = c .before .before .before .before .before .loop in let s = asking-space _ _ _ _ _ _ _ _ _ (l .inv .2) _ (c .before .before .before .before .pend .ensures) (c .before .before .if1 .taken) in omega (arith, s, l .inv .0, l .inv .1)
+enum-known-done : tie.Need-enum-known-done
+enum-known-done c = search needs
 
-add-n : tie.Need-add-n Inv-loop μ-loop
-add-n c = let l = c .before .before .before .before .before .before .before .before .loop in let s = asking-space _ _ _ _ _ _ _ _ _ (l .inv .2) _ (c .before .before .before .before .before .before .before .pend .ensures) (c .before .before .before .before .before .if1 .taken) in omega (arith, s, l .inv .1)
+halted-requires-2 : tie.Need-halted-requires-2
+halted-requires-2 c κs = search needs
 
-loop-less : tie.Need-loop-less Inv-loop μ-loop
-loop-less c = let l = c .before .before .before .before .before .before .before .before .before .loop in let s = asking-space _ _ _ _ _ _ _ _ _ (l .inv .2) _ (c .before .before .before .before .before .before .before .before .pend .ensures) (c .before .before .before .before .before .before .if1 .taken) in omega (arith, s)
+same-length : tie.Need-same-length
+same-length c = search needs
 
-loop-again : tie.Need-loop-again Inv-loop μ-loop
-loop-again c = let l = c .before .before .before .before .before .before .before .before .before .loop in let f = c .before .before .before .put-group .ensures in (simp length-sets at (ap length f) ∙ l .inv .0, l .inv .1, asking-turn _ _ _ _ _ _ _ _ _ (l .inv .2) _ (c .before .before .before .before .before .before .before .before .pend .ensures) (c .before .before .before .before .before .before .if1 .taken) _ f)
+returns : tie.Need-returns
+returns c =
+    rw (runs-as (c .before .before .before .before .before .before .before .before .args .from) (c .before .before .before .before .enum-told .given .1)) (c .before .before .store-on .ensures)
 
-same-length : tie.Need-same-length Inv-loop μ-loop
-same-length c = c .before .before .before .loop .inv .0
+returns-2 : tie.Need-returns-2
+returns-2 c = let p = c .before .before .before .before .before .before .pre in let o = idle-run _ _ _ _ _ _ _ (p .0) (p .1) (again-end _ _ _ _ _ (c .before .before .enum-told2 .given .1)) in (ap (λ (q : Pending). q .ran) (c .before .halted .ensures) ∙ o .0, o .1)
 
-returns : tie.Need-returns Inv-loop μ-loop
-returns c = let l = c .before .before .before .loop in asking-end _ _ _ _ _ _ _ _ _ (l .inv .2) _ (c .before .before .pend .ensures) (c .if1 .left) (l .inv .1)
+returns-3 : tie.Need-returns-3
+returns-3 c = let p = c .before .before .before .before .before .before .before .pre in let o = idle-run _ _ _ _ _ _ _ (p .0) (p .1) (again-error _ _ _ _ _ _ (c .before .before .before .done .given .1)) in (ap (λ (q : Pending). q .ran) (c .before .halted2 .ensures) ∙ o .0, o .1)
 
 pub store-all-spec : {M : Type 1} → statement M
 store-all-spec =
     tie.close
     (tie.spec
-    Inv-loop
-    μ-loop
-    loop-holds
-    pend-requires
-    put-group-requires
-    add-n
-    loop-less
-    loop-again
+    enum-told
+    store-on-requires
+    enum-told-2
+    halted-requires
+    enum-known-done
+    halted-requires-2
     same-length
-    returns)
+    returns
+    returns-2
+    returns-3)
