@@ -1,18 +1,17 @@
-// 01's marked and run-only examples through the forms that it names, then what each public form answers besides: limits, room, shift, ill-formed
-// text, payloads, expansions, places, LTK files; and every kind's and every refusal's name. The file `stdout` holds what 01 says of them.
-mod forms;
-mod names;
+// 01's marked and run-only examples through the forms that it names, then what stops a run besides: limits, room, shift, ill-formed text; and single
+// calls. The file `stdout` holds what 01 says of them.
+mod calls;
 mod runs;
 mod say;
 
 fn main() {
     runs::marked();
+    runs::marked_code();
     runs::run_only();
     runs::limits();
-    runs::calls();
-    forms::expansions();
-    forms::payloads();
-    forms::places();
-    forms::files();
-    names::all();
+    runs::rooms();
+    runs::shifts();
+    calls::to_the_end();
+    calls::to_an_error();
+    calls::off_the_boundaries();
 }

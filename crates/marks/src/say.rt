@@ -1,8 +1,7 @@
 // What this program prints with.
 use libc::STDOUT_FILENO;
 use reading::Outcome;
-use record::Checked;
-use record::Code;
+use reading::Tokenizer;
 use record::Refusal;
 use text::Came;
 
@@ -10,7 +9,7 @@ pub(crate) fn say(words: &[u8]) {
     io::write_all(STDOUT_FILENO, words);
 }
 
-pub(crate) fn number(n: u64) {
+fn number(n: u64) {
     io::print_decimal(STDOUT_FILENO, n);
 }
 
@@ -26,33 +25,28 @@ fn came(buffer: &[u8], to: Came) {
     }
 }
 
-pub(crate) fn kind(n: u64) {
-    let mut buffer = [0u8; 32];
-    let to = text::kind_name(&mut buffer, Came::To(0), n);
-    came(&buffer, to);
+pub(crate) fn named(name: &[u8]) {
+    say(name);
+    say(b"\n");
 }
 
-pub(crate) fn code(n: u64) {
+fn kind(n: u64) {
     let mut buffer = [0u8; 32];
-    let to = text::code_name(&mut buffer, Came::To(0), n);
+    let to = text::kind_name(&mut buffer, Came::To(0), n);
     came(&buffer, to);
 }
 
 // `error NAME at P`
 pub(crate) fn refusal(r: Refusal) {
     let c = r.code;
-    say(b"error ");
-    code(record::code_number(c) as u64);
-    say(b" at ");
-    number(r.place);
-}
-
-pub(crate) fn checked(c: Checked) {
-    match c {
-        Checked::Passed => say(b"passed"),
-        Checked::Refused(r) => refusal(r),
-    }
-    say(b"\n");
+    let mut buffer = [0u8; 128];
+    let to = text::refusal_line(
+        &mut buffer,
+        Came::To(0),
+        record::code_number(c) as u64,
+        r.place,
+    );
+    came(&buffer, to);
 }
 
 // A record's line, with its payload's places where it has one.
@@ -71,28 +65,37 @@ pub(crate) fn record_line(k: u64, start: u64, end: u64, a: u64, b: u64) {
     say(b"\n");
 }
 
+fn error_line(r: Refusal, advances: u64) {
+    let c = r.code;
+    let mut buffer = [0u8; 128];
+    let to = text::error_line(
+        &mut buffer,
+        Came::To(0),
+        record::code_number(c) as u64,
+        r.place,
+        advances,
+    );
+    came(&buffer, to);
+}
+
 // How a run stopped, and its advances.
 pub(crate) fn last_line(how: Outcome, advances: u64) {
     match how {
-        Outcome::Refused(r) => refusal(r),
-        Outcome::Ended => say(b"end"),
-        Outcome::Running => say(b"running"),
+        Outcome::Refused(r) => error_line(r, advances),
+        Outcome::Ended => {
+            say(b"end advances ");
+            number(advances);
+            say(b"\n");
+        }
+        Outcome::Running => say(b"running\n"),
     }
-    say(b" advances ");
-    number(advances);
+}
+
+// A tokenizer's cursor and count.
+pub(crate) fn state(t: Tokenizer) {
+    say(b"cursor ");
+    number(t.at);
+    say(b" count ");
+    number(t.count);
     say(b"\n");
-}
-
-fn byte(x: u8) {
-    say(b" ");
-    number(x as u64);
-}
-
-// Bytes, each as a number.
-pub(crate) fn bytes(words: &[u8]) {
-    let mut i = 0;
-    while i < words.len() {
-        byte(words[i]);
-        i += 1;
-    }
 }

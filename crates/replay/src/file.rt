@@ -1,13 +1,15 @@
 // The file: its bytes, and the numbers that they make.
-use crate::lists::bytes_differ;
-use crate::lists::put;
-use crate::lists::wide;
-use crate::say::word;
-use crate::words::FAILED;
-use crate::words::GOES_ON;
+use crate::say::say;
 use libc::STDIN_FILENO;
+use recorded::Difference;
 ghost use Prim.Native.Nat.{_+_, _≤_, _<_};
 ghost use lib.ListN.{length};
+
+fn wide(b: u8) -> u64
+    ensures { λ r. ⌜ r ≤ 255 ⌝ }
+{
+    b as u64
+}
 
 // The number of two bytes.
 fn two(s: &[u8], p: usize) -> usize
@@ -22,11 +24,11 @@ pub(crate) fn is_end() -> bool {
     let mut more = [0u8; 1];
     let got = libc::read(STDIN_FILENO, &mut more);
     if got < 0 {
-        word(FAILED);
+        say(b"a read failed\n");
         return false;
     }
     if 0 < got {
-        word(GOES_ON);
+        say(b"the file goes on\n");
         return false;
     }
     true
@@ -37,8 +39,10 @@ const MARK: [u64; 8] = [114, 101, 112, 108, 97, 121, 32, 50];
 
 // Whether bytes are the head's.
 pub(crate) fn is_mark(s: &[u8]) -> bool {
-    let d = bytes_differ(0, &MARK, s);
-    !d.found
+    match recorded::bytes_differ(0, &MARK, s) {
+        Difference::Same => true,
+        _ => false,
+    }
 }
 
 // A case that is read: how many bytes it has, and how many numbers; no numbers where it is not whole.
@@ -92,6 +96,13 @@ fn fill(buffer: &mut [u8], bytes: usize, end: usize) -> Lengths
         return Lengths { bytes: 0, end: 0 };
     }
     Lengths { bytes, end }
+}
+
+// A number at a place, where the list has it.
+fn put(list: &mut [u64], at: usize, n: u64) {
+    if at < list.len() {
+        list[at] = n;
+    }
 }
 
 // Above this one digit more is too much for a number.

@@ -11,15 +11,11 @@
 //              refusal, where the expansion stands (0 nowhere, 1 in the text, 2 in the buffer), start, end, how many bytes of the buffer are written, and
 //              the bytes of the expansion
 // After the last case the file ends.
-mod expansions;
+
 mod file;
-mod lists;
 mod say;
-mod texts;
-mod words;
 
 use say::Case;
-use say::word;
 
 // The most bytes of a case, and the most numbers.
 const BYTES: usize = 65536;
@@ -42,7 +38,7 @@ fn main() {
         return;
     }
     file::is_end();
-    word(words::NO_HEAD);
+    say::say(b"the head is not that of a file of cases\n");
 }
 
 // The four parts of the file, after its head.
@@ -80,13 +76,15 @@ fn part(whole: bool, planted: bool, is_text: bool, count: u64) -> Found {
 // The file has to end here.
 fn finish(texts: u64, expansions: u64, same: bool) {
     if file::is_end() {
-        say::counted(texts, words::TEXTS);
-        say::counted(expansions, words::EXPANSIONS);
+        say::number(texts);
+        say::say(b" texts, ");
+        say::number(expansions);
+        say::say(b" expansions: ");
         if same {
-            word(words::NO_DIFFERENCE);
+            say::say(b"no difference\n");
             return;
         }
-        word(words::DIFFERENCE);
+        say::say(b"the first difference stands above\n");
     }
 }
 
@@ -114,14 +112,23 @@ fn one(c: Case) -> Found {
 // Whether any form of a case answers otherwise than is recorded.
 fn differs(c: Case, bytes: &[u8], numbers: &[u64]) -> bool {
     if c.is_text {
-        return text_differs(c, bytes, lists::get(numbers, 0), lists::rest(numbers, 1));
+        return text_differs(
+            c,
+            bytes,
+            recorded::get(numbers, 0),
+            recorded::rest(numbers, 1),
+        );
     }
-    say::differs(c, say::EXPAND, expansions::expanded(bytes, numbers))
+    say::differs(c, say::EXPAND, asked::expansions::expanded(bytes, numbers))
 }
 
 fn text_differs(c: Case, text: &[u8], shift: u64, recorded: &[u64]) -> bool {
-    let a = say::differs(c, say::RUN, texts::listed(text, shift, recorded));
-    let b = say::differs(c, say::NEXT, texts::called(text, shift, recorded));
-    let d = say::differs(c, say::NUMBERS, texts::numbered(text, shift, recorded));
+    let a = say::differs(c, say::RUN, asked::texts::listed(text, shift, recorded));
+    let b = say::differs(c, say::NEXT, asked::texts::called(text, shift, recorded));
+    let d = say::differs(
+        c,
+        say::NUMBERS,
+        asked::texts::numbered(text, shift, recorded),
+    );
     a | b | d
 }

@@ -1,25 +1,6 @@
 // What the program prints.
-use crate::lists::Difference;
-use crate::lists::LENGTH;
-use crate::words::ANSWERED;
-use crate::words::BYTE;
-use crate::words::COLON;
-use crate::words::ENDS;
-use crate::words::EXPANSION;
-use crate::words::FORM;
-use crate::words::NEWLINE;
-use crate::words::NONE;
-use crate::words::NOT_WHOLE;
-use crate::words::OF_EXPANSION;
-use crate::words::OF_LENGTH;
-use crate::words::OF_TEXT;
-use crate::words::OF_TOKEN;
-use crate::words::PLANTED;
-use crate::words::RECORDED;
-use crate::words::TEXT;
-use crate::words::TOKEN;
-use crate::words::WORDS;
 use libc::STDOUT_FILENO;
+use recorded::Difference;
 
 // The forms in which a case is asked: a text in the first three, an expansion in the fourth.
 pub const RUN: usize = 0;
@@ -38,91 +19,89 @@ pub struct Case {
     pub index: u64,
 }
 
-// Prints the i-th of the words.
-fn print(words: &[u8], ends: &[usize], i: usize) {
-    if i < ends.len() {
-        if i + 1 < ends.len() {
-            let a = ends[i];
-            let b = ends[i + 1];
-            if a <= b {
-                if b <= words.len() {
-                    io::write_all(STDOUT_FILENO, &words[a..b]);
-                }
-            }
-        }
-    }
+pub(crate) fn say(words: &[u8]) {
+    io::write_all(STDOUT_FILENO, words);
 }
 
-pub(crate) fn word(i: usize) {
-    print(&WORDS, &ENDS, i);
-}
-
-fn decimal(n: u64) {
+pub(crate) fn number(n: u64) {
     io::print_decimal(STDOUT_FILENO, n);
-}
-
-// A number and a word after it, and the other way about.
-pub(crate) fn counted(n: u64, i: usize) {
-    decimal(n);
-    word(i);
-}
-
-fn named(i: usize, n: u64) {
-    word(i);
-    decimal(n);
 }
 
 // Which case it is.
 fn title(c: Case) {
     if c.planted {
-        word(PLANTED);
+        say(b"planted ");
     }
     if c.is_text {
-        named(TEXT, c.index);
-        return;
+        say(b"text ");
+    } else {
+        say(b"expansion ");
     }
-    named(EXPANSION, c.index);
+    number(c.index);
 }
 
 pub(crate) fn not_whole(c: Case) {
     title(c);
-    word(NOT_WHOLE);
+    say(b" is not whole\n");
 }
 
 // The case and the form.
 fn titles(c: Case, f: usize) {
     title(c);
-    if f < EXPAND {
-        word(FORM + f);
+    match f {
+        0 => say(b", run::run"),
+        1 => say(b", run::next"),
+        2 => say(b", run::run_numbers"),
+        _ => {}
+    }
+}
+
+// Which number of a token it is.
+fn of_token(i: usize) {
+    match i {
+        0 => say(b"kind"),
+        1 => say(b"start"),
+        2 => say(b"end"),
+        3 => say(b"payload start"),
+        _ => say(b"payload end"),
     }
 }
 
 // Which number of a text's answer it is.
 fn of_text(i: usize) {
-    if i < 5 {
-        word(OF_TEXT + i);
-        return;
+    match i {
+        0 => say(b"number of tokens"),
+        1 => say(b"code"),
+        2 => say(b"place"),
+        3 => say(b"advances"),
+        4 => say(b"cursor"),
+        _ => {
+            let k = i - 5;
+            of_token(k % 5);
+            say(b" of token ");
+            number((k / 5) as u64);
+        }
     }
-    let k = i - 5;
-    word(TOKEN + k % 5);
-    named(OF_TOKEN, (k / 5) as u64);
 }
 
 // Which number of an expansion's answer it is.
 fn of_expansion(i: usize) {
-    if i < 6 {
-        word(OF_EXPANSION + i);
-        return;
+    match i {
+        0 => say(b"code"),
+        1 => say(b"place"),
+        2 => say(b"where it stands"),
+        3 => say(b"start"),
+        4 => say(b"end"),
+        5 => say(b"bytes written"),
+        _ => {
+            say(b"byte ");
+            number((i - 6) as u64);
+        }
     }
-    named(BYTE, (i - 6) as u64);
 }
 
+// Which number of a form's answer it is.
 fn field(f: usize, i: usize) {
-    word(COLON);
-    if i == LENGTH {
-        word(OF_LENGTH);
-        return;
-    }
     if f < EXPAND {
         of_text(i);
         return;
@@ -130,25 +109,45 @@ fn field(f: usize, i: usize) {
     of_expansion(i);
 }
 
+fn both(recorded: u64, answered: u64) {
+    say(b": recorded ");
+    number(recorded);
+    say(b", answered ");
+    number(answered);
+    say(b"\n");
+}
+
 fn difference(f: usize, d: Difference) {
-    field(f, d.at);
-    named(RECORDED, d.recorded);
-    named(ANSWERED, d.answered);
-    word(NEWLINE);
+    say(b": ");
+    match d {
+        Difference::Same => {}
+        Difference::Length(r, a) => {
+            say(b"length of the answer");
+            both(r, a);
+        }
+        Difference::Number(i, r, a) => {
+            field(f, i);
+            both(r, a);
+        }
+    }
 }
 
 // Whether a form of a case differs. A difference is said, and of a planted case also that there is none.
 pub(crate) fn differs(c: Case, f: usize, d: Difference) -> bool {
-    if d.found {
-        if c.said {
-            titles(c, f);
-            difference(f, d);
+    match d {
+        Difference::Same => {
+            if c.planted {
+                titles(c, f);
+                say(b" shows no difference\n");
+            }
+            false
         }
-        return true;
+        _ => {
+            if c.said {
+                titles(c, f);
+                difference(f, d);
+            }
+            true
+        }
     }
-    if c.planted {
-        titles(c, f);
-        word(NONE);
-    }
-    false
 }
