@@ -2,7 +2,7 @@
 pub mod Answers
 pub mod Texts
 pub mod Expansions
--- the theorem
+-- the theorems
 pub mod Told
 -- the laws that the code cites
 pub mod Calls

@@ -63,12 +63,13 @@ runDiffers recorded r list =
     answerDiffers 5 recorded (headOf (r .stored) (codeOf (r .how)) (placeOf (r .how)) (r .advances) (r .state .at)) (take (size (r .stored)) list)
 
 module _ (s : List ℕ) (shift : ℕ) where
-  -- the token's payload is read, and is as long as its places say; else no kind has the number 255
+  -- the token's payload is read, and is as long as its places say
   unfoldable pub isRead : Token → Bool
   isRead t =
       isPayload s shift (t .«payload_start») (t .«payload_end»)
       && eqb (length (payload s shift t)) (t .«payload_end» - t .«payload_start»)
 
+  -- 255, which no kind has, for a token whose payload is not read
   abbrev pub kindOf : Token → ℕ
   kindOf t = cond (isRead t) (kindNumber (t .kind)) 255
 

@@ -1,4 +1,4 @@
--- A word is told by its own characters: what stands after it does not matter.
+-- Which word it is, its own characters tell. What stands after it counts only as what follows at once: a `<`, or the code of `use`.
 use Prim.Native.Nat.{_+_, _<_, suc, zero, ℕ}
 use native.Mathlib.Nat.{le-of-suc-le-suc}
 use native.Mathlib.Omega.{arith}
