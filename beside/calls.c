@@ -4,6 +4,7 @@
  */
 #include <stdio.h>
 #include <string.h>
+#include <sys/mman.h>
 
 #include "teykonasir.h"
 
@@ -101,12 +102,172 @@ static void expansions(void)
     EXPECT(teyk_expand(BYTES("\\n"), 3, buffer, 8, 0, answer, 3) == TEYK_NO_ROOM && !memcmp(buffer, "..a\177\n...", 8));
 }
 
+/* LF, CR LF and a lone CR; é, U+10000 and U+FFFF */
+#define LINES "a\n\303\251b\r\n\360\220\200\200c\r\357\277\277"
+
+static int stands(const uint8_t *text, size_t length, uint64_t place, uint64_t line, uint64_t column)
+{
+    uint64_t answer[3] = {9, 9, 9};
+    return teyk_place(text, length, place, NUMBERS(answer)) == 0 && answer[0] == line && answer[1] == column && answer[2] == 9;
+}
+
+static int found(const uint8_t *text, size_t length, uint64_t line, uint64_t column, uint64_t place)
+{
+    uint64_t answer[2] = {9, 9};
+    return teyk_place_at(text, length, line, column, NUMBERS(answer)) == 0 && answer[0] == place && answer[1] == 9;
+}
+
 static void places(void)
 {
-    uint64_t answer[2];
-    EXPECT(teyk_place(BYTES("a\nbc"), 3, NUMBERS(answer)) == 0 && answer[0] == 2 && answer[1] == 2);
-    EXPECT(teyk_place(BYTES("a\nbc"), 99, NUMBERS(answer)) == 0 && answer[0] == 2 && answer[1] == 3);
-    EXPECT(teyk_place(BYTES("a\nbc"), 0, answer, 1) == TEYK_NO_ROOM && answer[0] == 2);
+    EXPECT(stands(BYTES(LINES), 0, 0, 0) && stands(BYTES(LINES), 1, 0, 1));
+    EXPECT(stands(BYTES(LINES), 2, 1, 0) && stands(BYTES(LINES), 4, 1, 1));
+    EXPECT(stands(BYTES(LINES), 7, 2, 0) && stands(BYTES(LINES), 11, 2, 2));
+    EXPECT(stands(BYTES(LINES), 12, 2, 3) && stands(BYTES(LINES), 13, 3, 0));
+    /* inside a character, between CR and LF, at the end and beyond it */
+    EXPECT(stands(BYTES(LINES), 3, 1, 0) && stands(BYTES(LINES), 10, 2, 0) && stands(BYTES(LINES), 15, 3, 0));
+    EXPECT(stands(BYTES(LINES), 5, 1, 2) && stands(BYTES(LINES), 6, 1, 3));
+    EXPECT(stands(BYTES(LINES), 16, 3, 1) && stands(BYTES(LINES), 17, 3, 1) && stands(BYTES(LINES), UINT64_MAX, 3, 1));
+    /* LF CR is two ends, and a CR may be the last character */
+    EXPECT(stands(BYTES("\n\r"), 1, 1, 0) && stands(BYTES("\n\r"), 2, 2, 0) && stands(BYTES(""), 1, 0, 0));
+}
+
+static void places_back(void)
+{
+    EXPECT(found(BYTES(LINES), 0, 0, 0) && found(BYTES(LINES), 1, 0, 2) && found(BYTES(LINES), 1, 1, 4));
+    EXPECT(found(BYTES(LINES), 2, 0, 7) && found(BYTES(LINES), 2, 2, 11) && found(BYTES(LINES), 3, 0, 13) && found(BYTES(LINES), 3, 1, 16));
+    /* beyond the line, inside a pair, beyond the last line */
+    EXPECT(found(BYTES(LINES), 0, 2, 1) && found(BYTES(LINES), 1, 3, 5) && found(BYTES(LINES), 2, UINT64_MAX, 12) && found(BYTES(LINES), 3, 2, 16));
+    EXPECT(found(BYTES(LINES), 2, 1, 7));
+    EXPECT(found(BYTES(LINES), 4, 0, 16) && found(BYTES(LINES), UINT64_MAX, UINT64_MAX, 16));
+    EXPECT(found(BYTES("\n\r"), 1, 9, 1) && found(BYTES("\n\r"), 2, 0, 2) && found(BYTES(""), 0, 1, 0));
+}
+
+static void places_refused(void)
+{
+    uint64_t answer[2] = {9, 9};
+    const size_t length = (size_t)TEYK_TEXT_LIMIT + 1;
+    uint8_t *text = mmap(NULL, length, PROT_READ | PROT_WRITE, MAP_PRIVATE | MAP_ANONYMOUS | MAP_NORESERVE, -1, 0);
+    EXPECT(teyk_place(BYTES("a\n\303"), 1, NUMBERS(answer)) == TEYK_NOT_UTF8 && answer[0] == 2 && answer[1] == 0);
+    EXPECT(teyk_place_at(BYTES("a\377"), 9, 9, NUMBERS(answer)) == TEYK_NOT_UTF8 && answer[0] == 1 && answer[1] == 0);
+    EXPECT(text != MAP_FAILED);
+    if (text == MAP_FAILED)
+        return;
+    /* ill-formed too, and at a place that is not told */
+    text[1] = 255;
+    answer[0] = answer[1] = 9;
+    EXPECT(teyk_place(text, length, 1, NUMBERS(answer)) == TEYK_TOO_LONG && answer[0] == 0 && answer[1] == 0);
+    answer[0] = answer[1] = 9;
+    EXPECT(teyk_place_at(text, length, 0, 1, NUMBERS(answer)) == TEYK_TOO_LONG && answer[0] == 0 && answer[1] == 9);
+    answer[0] = answer[1] = 77;
+    EXPECT(teyk_place(text, length, 1, answer, 1) == TEYK_NO_ROOM && answer[0] == 77 && answer[1] == 77);
+    EXPECT(teyk_place_at(text, length, 0, 1, answer, 0) == TEYK_NO_ROOM && answer[0] == 77 && answer[1] == 77);
+    munmap(text, length);
+}
+
+/* ---- the same once more, by the request's words alone: where the lines of a well-formed text start and stop, and the units of its characters */
+#define MOST 5 /* characters of a text */
+
+static size_t width(uint8_t first)
+{
+    return first < 0x80 ? 1 : first < 0xE0 ? 2 : first < 0xF0 ? 3 : 4;
+}
+
+static uint32_t character(const uint8_t *at)
+{
+    uint32_t c = width(*at) == 1 ? *at : *at & (0x7F >> width(*at));
+    for (size_t i = 1; i < width(*at); i++)
+        c = c << 6 | (at[i] & 0x3F);
+    return c;
+}
+
+static uint64_t units(const uint8_t *at)
+{
+    return character(at) > 0xFFFF ? 2 : 1;
+}
+
+/* a line stops before its CR or LF */
+static size_t split(const uint8_t *text, size_t length, size_t *start, size_t *stop)
+{
+    size_t lines = 0;
+    start[0] = 0;
+    for (size_t i = 0; i < length; i++) {
+        if (text[i] != '\n' && text[i] != '\r')
+            continue;
+        stop[lines++] = i;
+        if (text[i] == '\r' && i + 1 < length && text[i + 1] == '\n')
+            i++;
+        start[lines] = i + 1;
+    }
+    stop[lines++] = length;
+    return lines;
+}
+
+static int place_agrees(const uint8_t *text, size_t length, const size_t *start, size_t lines, size_t place)
+{
+    size_t at = place < length ? place : length, line = lines - 1;
+    uint64_t column = 0;
+    while (at < length && (text[at] & 0xC0) == 0x80)
+        at--;
+    while (start[line] > at)
+        line--;
+    for (size_t i = start[line]; i < at; i += width(text[i]))
+        column += units(text + i);
+    return stands(text, length, place, line, column);
+}
+
+static int place_at_agrees(const uint8_t *text, size_t length, const size_t *start, const size_t *stop, size_t lines, size_t line,
+                           uint64_t column)
+{
+    uint64_t left = column;
+    size_t at = line < lines ? start[line] : length;
+    while (line < lines && at < stop[line] && units(text + at) <= left) {
+        left -= units(text + at);
+        at += width(text[at]);
+    }
+    return found(text, length, line, column, at);
+}
+
+static void differs(const char *what, const uint8_t *text, size_t length, size_t a, size_t b)
+{
+    wrong++;
+    printf("%s %zu %zu differs in the text", what, a, b);
+    for (size_t i = 0; i < length; i++)
+        printf(" %02X", text[i]);
+    printf("\n");
+}
+
+static uint64_t texts, there, back;
+
+/* each place of a text and two beyond it, each line and column and some beyond them */
+static void compare(const uint8_t *text, size_t length)
+{
+    size_t start[MOST + 1], stop[MOST + 1], lines = split(text, length, start, stop);
+    texts++;
+    for (size_t place = 0; place < length + 3; place++, there++)
+        if (!place_agrees(text, length, start, lines, place))
+            differs("teyk_place", text, length, place, 0);
+    for (size_t line = 0; line < MOST + 3; line++)
+        for (size_t column = 0; column < 2 * MOST + 2; column++, back++)
+            if (!place_at_agrees(text, length, start, stop, lines, line, column))
+                differs("teyk_place_at", text, length, line, column);
+}
+
+/* the text itself, then each that goes on with one more character */
+static void compare_all(uint8_t *text, size_t length, int more)
+{
+    static const char *const alphabet[] = {"a", "\n", "\r", "\303\251", "\357\277\277", "\360\237\230\200"};
+    compare(text, length);
+    for (size_t i = 0; more && i < sizeof alphabet / sizeof *alphabet; i++) {
+        memcpy(text + length, alphabet[i], strlen(alphabet[i]));
+        compare_all(text, length + strlen(alphabet[i]), more - 1);
+    }
+}
+
+static void places_compared(void)
+{
+    uint8_t text[4 * MOST];
+    compare_all(text, 0, MOST);
+    EXPECT(texts == 9331 && there == 117573 && back == 9331 * (MOST + 3) * (2 * MOST + 2));
 }
 
 static void files(void)
@@ -135,6 +296,9 @@ int main(void)
     names();
     expansions();
     places();
+    places_back();
+    places_refused();
+    places_compared();
     files();
     printf(wrong ? "%d not so\n" : "all as the header says\n", wrong);
     return wrong != 0;

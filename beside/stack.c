@@ -10,8 +10,8 @@
 #define LONGEST (1 << 20)
 #define PAINT 0xA5
 
-static const char *const called[] = {"nothing", "teyk_run", "teyk_resume", "teyk_expand", "teyk_place", "teyk_ltk_write", "teyk_ltk_read",
-                                     "teyk_name_of_kind", "teyk_name_of_code"};
+static const char *const called[] = {"nothing", "teyk_run", "teyk_resume", "teyk_expand", "teyk_place", "teyk_place_at", "teyk_ltk_write",
+                                     "teyk_ltk_read", "teyk_name_of_kind", "teyk_name_of_code"};
 enum { CALLS = sizeof called / sizeof *called };
 
 static const char *const shapes[] = {
@@ -38,11 +38,13 @@ static void call(void)
     else if (which == 4)
         teyk_place(text, length, length, answer, 4);
     else if (which == 5)
-        teyk_ltk_write(records, TEYK_RECORD * count, buffer, sizeof buffer, answer, 4);
+        teyk_place_at(text, length, length, length, answer, 4);
     else if (which == 6)
+        teyk_ltk_write(records, TEYK_RECORD * count, buffer, sizeof buffer, answer, 4);
+    else if (which == 7)
         teyk_ltk_read(buffer, TEYK_LTK_SIZE(count), records, TEYK_RECORD * LONGEST, answer, 4);
-    for (uint64_t n = 0; which > 6 && n <= TEYK_KINDS; n++)
-        (which == 7 ? teyk_name_of_kind : teyk_name_of_code)(n, text, TEYK_NAME_MOST, answer, 4);
+    for (uint64_t n = 0; which > 7 && n <= TEYK_KINDS; n++)
+        (which == 8 ? teyk_name_of_kind : teyk_name_of_code)(n, text, TEYK_NAME_MOST, answer, 4);
 }
 
 static void measure(void)

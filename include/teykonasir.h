@@ -13,8 +13,8 @@
  *   - Nothing else is written than what is said here.
  *   - Threads: there is no state but what is lent. Every function may be called from any number of threads at once, as long as no slice
  *     that one call writes is used by another.
- *   - Stack: no function calls itself. The frames of the deepest chain of calls in the archive's code take 2,464 bytes together, and 128
- *     below the last of them may be used; 1,760 were seen used on a painted stack (both by beside/stack). Where the dynamic loader binds
+ *   - Stack: no function calls itself. The frames of the deepest chain of calls in the archive's code take 2,384 bytes together, and 128
+ *     below the last of them may be used; 1,680 were seen used on a painted stack (both by beside/stack). Where the dynamic loader binds
  *     memcpy only at its first call, that call takes some 3,200 more.
  *   - Words are Unicode 15.0.0's: XID_Start, XID_Continue and White_Space.
  */
@@ -28,9 +28,9 @@
 extern "C" {
 #endif
 
-#define TEYK_VERSION "4.0.0"
+#define TEYK_VERSION "4.1.0"
 #define TEYK_VERSION_MAJOR 4
-#define TEYK_VERSION_MINOR 0
+#define TEYK_VERSION_MINOR 1
 #define TEYK_VERSION_PATCH 0
 
 /* The codes. 1 to 10 are LALRPOP's own; nothing answers 21 to 29 yet. */
@@ -145,6 +145,7 @@ enum teyk_kind {
 #define TEYK_RESUME_ANSWER 4
 #define TEYK_EXPAND_ANSWER 4
 #define TEYK_PLACE_ANSWER 2
+#define TEYK_PLACE_AT_ANSWER 1
 #define TEYK_LTK_ANSWER 3
 #define TEYK_NAME_ANSWER 1
 
@@ -209,11 +210,33 @@ uint64_t teyk_resume(const uint8_t *text, size_t text_len, uint64_t shift, uint6
 uint64_t teyk_expand(const uint8_t *text, size_t text_len, uint64_t idx0, uint8_t *buffer, size_t buffer_len, uint64_t place,
                      uint64_t *answer, size_t answer_len);
 
-/* The line and the column of a place, which is a byte index with no shift.
+/* The line and the column of a place, which is a byte index with no shift, as the Language Server Protocol counts them.
  *
- * answer: line (1 plus the newlines, byte 10, before the place), column (1 plus the bytes since the last of them). A place beyond the
- * text is answered as its end. The text need not be UTF-8. The result is 0, or 14 with fewer than two numbers in `answer`. */
+ * Both count from 0. A line ends at LF, CR LF or a lone CR. The column is the UTF-16 units since the line's start: two for a character
+ * above U+FFFF, one for any other. A place between CR and LF belongs to the line that they end, and its column counts the CR. A place
+ * inside a character is answered as its first byte, one beyond the text as its end.
+ *
+ * answer: line, column; with 11 and 12 the refusal's place, and 0. The result is the code:
+ *    0   line and column are told
+ *   12   more than 2,147,483,647 bytes; place 0
+ *   11   the place is the first byte of the first ill-formed sequence
+ *   14   fewer than two numbers in `answer`; nothing is written
+ * 14 is tested first, then 12, then 11. */
 uint64_t teyk_place(const uint8_t *text, size_t text_len, uint64_t place, uint64_t *answer, size_t answer_len);
+
+/* The way back: the place, a byte index with no shift, of a line and a column as teyk_place counts them.
+ *
+ * A column beyond the line is the line's end, before its CR or LF. One inside a pair of units is the first byte of their character. A
+ * line beyond the last is the text's end. So the line and the column of any character's start, and of the text's end, give that place
+ * again; only a place between CR and LF becomes that of the CR.
+ *
+ * answer: the place; with 11 and 12 the refusal's. The result is the code:
+ *    0   the place is told
+ *   12   more than 2,147,483,647 bytes; place 0
+ *   11   the place is the first byte of the first ill-formed sequence
+ *   14   an empty `answer`; nothing is written
+ * 14 is tested first, then 12, then 11. */
+uint64_t teyk_place_at(const uint8_t *text, size_t text_len, uint64_t line, uint64_t column, uint64_t *answer, size_t answer_len);
 
 /* Reads an LTK file (version 1) into records, each as teyk_run has them, with payload start and end equal to start.
  *

@@ -47,15 +47,49 @@ pub fn expand_into<'a, T: AsRef<[u8]> + ?Sized>(text: &'a T, idx0: u64, buffer: 
     Ok(&held[answer[2] as usize..answer[3] as usize])
 }
 
-/// The line and the column of a place, which is a byte of the text with no shift, both from 1; columns are bytes. A place beyond the text is answered as
-/// its end. The text need not be UTF-8.
+/// The line and the column of a place, which is a byte of the text with no shift, as the Language Server Protocol counts them: both from 0, the column in
+/// UTF-16 units. A line ends at LF, CR LF or a lone CR.
+///
+/// A place between CR and LF belongs to the line that they end, and its column counts the CR. One inside a character is answered as its first byte, one
+/// beyond the text as its end. Refused are, with the place: `TooLong`, then `NotUtf8`.
 ///
 /// ```
-/// assert_eq!(teykonasir::place("a\nbc", 3), (2, 2));
-/// assert_eq!(teykonasir::place("a\nbc", 99), (2, 3));
+/// use teykonasir::{place, Code, Refusal};
+/// let text = "a\r\n\u{e9}b\r\u{1f600}c";
+/// assert_eq!(place(text, 5), Ok((1, 1)));
+/// assert_eq!(place(text, 11), Ok((2, 2)));
+/// // between CR and LF, inside a character, beyond the text
+/// assert_eq!(place(text, 2), Ok((0, 2)));
+/// assert_eq!(place(text, 4), Ok((1, 0)));
+/// assert_eq!(place(text, 99), Ok((2, 3)));
+/// assert_eq!(place(b"a\xFF", 0), Err(Refusal { code: Code::NotUtf8, place: 1 }));
 /// ```
-pub fn place(text: impl AsRef<[u8]>, at: u64) -> (u64, u64) {
+pub fn place(text: impl AsRef<[u8]>, at: u64) -> Result<(u64, u64), Refusal> {
     let (text, mut answer) = (text.as_ref(), [0; 2]);
-    unsafe { raw::teyk_place(text.as_ptr(), text.len(), at, answer.as_mut_ptr(), answer.len()) };
-    (answer[0], answer[1])
+    let code = unsafe { raw::teyk_place(text.as_ptr(), text.len(), at, answer.as_mut_ptr(), answer.len()) };
+    verdict(code, answer[0])?;
+    Ok((answer[0], answer[1]))
+}
+
+/// The way back: the place of a line and a column as [`place`] counts them, always at a character's start or at the text's end.
+///
+/// A column beyond the line is the line's end, before its CR or LF; one inside a pair of units is the first byte of their character; a line beyond the
+/// last is the text's end. Refused is what [`place`] refuses.
+///
+/// ```
+/// use teykonasir::{place_at, Code, Refusal};
+/// let text = "a\r\n\u{e9}b\r\u{1f600}c";
+/// assert_eq!(place_at(text, 1, 1), Ok(5));
+/// assert_eq!(place_at(text, 2, 2), Ok(11));
+/// // beyond the line, inside a pair, beyond the last line
+/// assert_eq!(place_at(text, 0, 9), Ok(1));
+/// assert_eq!(place_at(text, 2, 1), Ok(7));
+/// assert_eq!(place_at(text, 3, 0), Ok(12));
+/// assert_eq!(place_at(b"a\xFF", 0, 0), Err(Refusal { code: Code::NotUtf8, place: 1 }));
+/// ```
+pub fn place_at(text: impl AsRef<[u8]>, line: u64, column: u64) -> Result<u64, Refusal> {
+    let (text, mut answer) = (text.as_ref(), [0]);
+    let code = unsafe { raw::teyk_place_at(text.as_ptr(), text.len(), line, column, answer.as_mut_ptr(), answer.len()) };
+    verdict(code, answer[0])?;
+    Ok(answer[0])
 }

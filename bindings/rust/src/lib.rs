@@ -12,7 +12,7 @@
 //! run_to_vec(text, 0, u64::MAX, &mut records).how?;
 //! let code = records.iter().find(|r| r.kind() == Kind::EqualsGreaterThanCode).unwrap();
 //! assert_eq!(code.payload(text, 0), Some(" n"));
-//! assert_eq!(place(text, code.start), (1, 25));
+//! assert_eq!(place(text, code.start)?, (0, 24));
 //! # Ok::<(), teykonasir::Refusal>(())
 //! ```
 //!
@@ -27,7 +27,7 @@ mod record;
 mod run;
 pub mod tok;
 
-pub use expand::{expand, expand_into, place};
+pub use expand::{expand, expand_into, place, place_at};
 pub use ltk::{ltk_length, ltk_read, ltk_read_into, ltk_write, ltk_write_into};
 pub use names::{Code, Kind};
 pub use record::{Ran, Record, Refusal, State};

@@ -4,6 +4,8 @@ pub mod Parts
 pub mod Examples
 -- THE THEOREM: the parts are the whole
 pub mod Whole
+-- the place in the line for people
+pub mod People
 -- every part fits
 pub mod Sizes
 pub mod Held

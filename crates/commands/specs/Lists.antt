@@ -1,5 +1,5 @@
 -- What the command `list` says: the lines for standard output and, for people, for standard error.
-use Prim.Native.Nat.{ℕ, zero, suc}
+use Prim.Native.Nat.{ℕ, zero, suc, _+_}
 use mathlib.Core.Bool.{Bool, cond}
 use mathlib.Core.List.{List, [], _∷_, _++_, map}
 use mathlib.Core.Path.{_≡_}
@@ -51,9 +51,10 @@ listing s = cond (ltb textLimit (length s)) (errorLine (codeNumber TooLong) 0 0 
 unfoldable pub headerLines : Bool → List ℕ → List (List ℕ)
 headerLines headed name = cond headed (name ∷ headerLine ∷ []) []
 
--- for people: `FILE:LINE:COLUMN: NAME`
+-- for people: `FILE:LINE:COLUMN: NAME`, "counted from 1 as compilers do, in characters' UTF-16 units: one more than the reporter says; for a text
+-- that is refused with 11 it is asked about the well-formed beginning"
 unfoldable pub refusedLines : List ℕ → List ℕ → Refusal → List (List ℕ)
-refusedLines name s r = name ∷ peopleLine (lineColumn s (r .place) .line) (lineColumn s (r .place) .column) (codeNumber (r .code)) ∷ []
+refusedLines name s r = name ∷ peopleLine (lineColumn s (r .place) .line + 1) (lineColumn s (r .place) .column + 1) (codeNumber (r .code)) ∷ []
 
 abbrev pub peopleLines : List ℕ → List ℕ → Outcome → List (List ℕ)
 peopleLines name s (Refused r) = refusedLines name s r

@@ -106,9 +106,9 @@ pub fn refused_onto(err: &mut [u8], from: Came, name: &[u8], text: &[u8], r: Ref
     ensures { λ k. ⌜ (k ≡ layAll (now (err .entry)) from (refusedLines (now (name .entry)) (now (text .entry)) r) .to) × (now (err .exit) ≡ layAll (now (err .entry)) from (refusedLines (now (name .entry)) (now (text .entry)) r) .held) ⌝ }
 {
     let code = r.code;
-    let at = place::line_column(text, r.place);
+    let at = place::in_beginning(text, r.place);
     let named = text::put(err, from, name);
-    text::people_line(err, named, at.line, at.column, number_of(code))
+    text::people_line(err, named, at.line + 1, at.column + 1, number_of(code))
 }
 
 fn people_onto(err: &mut [u8], from: Came, name: &[u8], text: &[u8], how: Outcome) -> Came

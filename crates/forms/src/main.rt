@@ -1,10 +1,9 @@
-// What the public forms besides the reading answer: string expansion, payloads, places, LTK files; and every kind's and every refusal's name. The file
+// What the public forms besides the reading answer: string expansion, payloads, LTK files; and every kind's and every refusal's name. The file
 // `stdout` holds what 01 says of them.
 mod expansions;
 mod files;
 mod names;
 mod payloads;
-mod places;
 mod say;
 
 fn main() {
@@ -12,7 +11,6 @@ fn main() {
     expansions::rooms();
     expansions::parts();
     payloads::all();
-    places::all();
     files::written();
     files::checked();
     names::all();

@@ -2,7 +2,7 @@
 use mathlib.Core.List.{List, [], _∷_}
 use mathlib.Core.Path.{_≡_, refl}
 use Prim.Native.Nat.{ℕ}
-use Rattle.teykonasir.specs.Calls.{Left, expandCall, placeCall, readCall, runCall, tell, writeCall}
+use Rattle.teykonasir.specs.Calls.{Left, expandCall, placeAtCall, placeCall, readCall, runCall, tell, writeCall}
 use Rattle.escapes.specs.Answers.{applied, expanded}
 use Rattle.escapes.specs.Escapes.{asciiEscape, digit, escape as escapeOf, expand, expandFrom, hasByte, stands}
 use Rattle.ltk.specs.Layout.{little, numberAt}
@@ -27,7 +27,7 @@ use Rattle.reading.specs.Run.{runFromWith, runWith, stepWith}
 use Rattle.reading.specs.Symbols.{arrowCode, arrowLook, bang, colon, dot, equals, half, look, minus, rightArrow, single, singles, stray, tilde}
 use Rattle.reading.specs.Words.{idToken, identifierish, keywordToken, keywords, spells, useToken, wordToken}
 use Rattle.run.specs.Checked.{ranWith, wholeRunWith}
-use Rattle.place.specs.Place.{newlines, since}
+use Rattle.place.specs.Place.{answered, before, bytesTo, ends, lineEnd, lineColumn, linesEnded, located, placeAt, reported, startsNewline, units, unitsSince}
 
 abbrev left : ℕ → List ℕ → List ℕ → Left
 left result lent numbers = record { result = result; lent = lent; numbers = numbers }
@@ -38,10 +38,17 @@ pub told : (tell 4 8 (8 ∷ 3 ∷ 1 ∷ 2 ∷ []) (5 ∷ []) (6 ∷ []) (9 ∷ 9
 unfolding tell
 told = (refl, refl)
 
--- line first, then column
-pub place-told : placeCall (97 ∷ 10 ∷ 98 ∷ []) 3 (9 ∷ 9 ∷ 9 ∷ []) ≡ left 0 [] (2 ∷ 2 ∷ 9 ∷ [])
-unfolding newlines placeCall since tell
-place-told = refl
+-- line first, then column: after `a`, LF, `é`; of a text that is ill-formed at its second byte, that place and 0
+pub place-told : (placeCall (97 ∷ 10 ∷ 195 ∷ 169 ∷ 98 ∷ []) 4 (9 ∷ 9 ∷ 9 ∷ []) ≡ left 0 [] (1 ∷ 1 ∷ 9 ∷ []))
+    × (placeCall (97 ∷ 255 ∷ []) 0 (9 ∷ 9 ∷ []) ≡ left 11 [] (1 ∷ 0 ∷ []))
+unfolding placeCall tell answered reported lineColumn before linesEnded unitsSince ends lineEnd startsNewline units checks reach chars charsFrom sight lead low high widthOf
+place-told = (refl, refl)
+
+-- and back
+pub place-at-told : (placeAtCall (97 ∷ 10 ∷ 195 ∷ 169 ∷ 98 ∷ []) 1 1 (9 ∷ 9 ∷ []) ≡ left 0 [] (4 ∷ 9 ∷ []))
+    × (placeAtCall (97 ∷ 255 ∷ []) 0 0 (9 ∷ []) ≡ left 11 [] (1 ∷ []))
+unfolding placeAtCall tell answered located placeAt bytesTo ends lineEnd startsNewline units checks reach chars charsFrom sight lead low high widthOf
+place-at-told = (refl, refl)
 
 -- `;` with shift 7: one record of five numbers, and the sixth number stays; code 0, place 0, one record, one advance
 pub run-told : runCall (59 ∷ []) 7 9 (6 ∷ 6 ∷ 6 ∷ 6 ∷ 6 ∷ 6 ∷ []) (9 ∷ 9 ∷ 9 ∷ 9 ∷ 9 ∷ []) ≡ left 0 (48 ∷ 7 ∷ 8 ∷ 7 ∷ 7 ∷ 6 ∷ []) (0 ∷ 0 ∷ 1 ∷ 1 ∷ 9 ∷ [])

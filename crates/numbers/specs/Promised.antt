@@ -14,8 +14,10 @@ use Rattle.utf8.specs.declared.Utf8.{Utf8}
 use Rattle.utf8.specs.declared.Utf8.the-variants.{Bad, Valid}
 use Rattle.record.specs.Checks.{checkUtf8, checks, shiftLimit, textLimit}
 use Rattle.record.specs.Numbers.{codeNumber, kindOf}
+use Rattle.record.specs.Records.{refusal}
 use Rattle.record.specs.declared.Checked.{Checked}
 use Rattle.record.specs.declared.Checked.the-variants.{Passed, Refused as Stopped}
+use Rattle.record.specs.declared.Code.the-variants.{TooLong}
 use Rattle.record.specs.declared.Known.{Known}
 use Rattle.record.specs.declared.Refusal.{Refusal}
 use Rattle.record.specs.declared.Token.{Token}
@@ -30,6 +32,12 @@ use Rattle.escapes.specs.Answers.{applied, checked, expanded, fit, inside, part
 use Rattle.escapes.specs.Escapes.{Outcome as Expansion, expand, gives, hasByte, refused}
 use Rattle.escapes.specs.declared.Expanded.{Expanded}
 use Rattle.escapes.specs.declared.Part.{Part}
+use Rattle.place.specs.Place.{answered, lineColumn, located, placeAt, reported}
+use Rattle.place.specs.Theorems.{refusals, wellFormed}
+use Rattle.place.specs.declared.Located.{Located}
+use Rattle.place.specs.declared.Located.the-variants.{At as There, Refused as NotLocated}
+use Rattle.place.specs.declared.Reported.{Reported}
+use Rattle.place.specs.declared.Reported.the-variants.{At as APlace, Refused as NotReported}
 use Rattle.ltk.specs.Faithful.{number-again}
 use Rattle.ltk.specs.Layout.{countLimit, numberAt, recordPlace}
 use Rattle.ltk.specs.Ltk.{bad, bytesFor, roomFor, countIn, entries, entriesIn, entryAt, entryOf, fileCheck, judged, marked, numbersIn, readAnswer, recordAt, tokenIn, writeAnswer}
@@ -38,8 +46,8 @@ use Rattle.ltk.specs.declared.Answer.the-variants.{Done, Refused as NotDone}
 use Rattle.ltk.specs.declared.Entry.{Entry}
 use Rattle.ltk.specs.declared.Found.{Found}
 use Rattle.ltk.specs.declared.Found.the-variants.{Record}
-use Rattle.numbers.specs.Same.{answer-same, code-some, checked-same, expanded-same, found-same, known-same, outcome-same, what-same}
-use Rattle.numbers.specs.Values.{answerNumbers, checkedNumbers, expandedNumbers, foundNumbers, knownNumbers, outcomeNumbers, refusalNumbers, whatNumbers}
+use Rattle.numbers.specs.Same.{answer-same, code-some, checked-same, expanded-same, found-same, known-same, located-same, outcome-same, reported-same, what-same}
+use Rattle.numbers.specs.Values.{answerNumbers, checkedNumbers, expandedNumbers, foundNumbers, knownNumbers, locatedNumbers, outcomeNumbers, refusalNumbers, reportedNumbers, whatNumbers}
 
 -- an answer is the one that is promised exactly if its numbers are
 abbrev pub Tells : {A : Type 0} → (A → List ℕ) → A → A → Type 0
@@ -157,6 +165,44 @@ module _ (s : List ℕ) (idx0 : ℕ) (d : List ℕ) (place : ℕ) where
       go : (c : Checked) → expandedNumbers (checked c (expanded s idx0 d place) d .answer) ≡ passNumbers c wholeNumbers
       go Passed = expanded-told
       go (Stopped z) = refl
+
+-- ---- line and column, and back. `place::line_column` and `place::place_at`
+pub place-told : (s : List ℕ) (p : ℕ) (r : Reported) → Tells reportedNumbers r (reported s p)
+place-told s p r = tells reportedNumbers reported-same r _
+
+pub place-at-told : (s : List ℕ) (line column : ℕ) (r : Located) → Tells locatedNumbers r (located s line column)
+place-at-told s line column r = tells locatedNumbers located-same r _
+
+-- written out: 12, then 11 at the first ill-formed byte, then the values; 13 never comes, since there is no shift
+abbrev pub readableNumbers : Utf8 → List ℕ → List ℕ → List ℕ
+readableNumbers Valid ns none = 0 ∷ 0 ∷ ns
+readableNumbers (Bad p) ns none = 11 ∷ p ∷ none
+
+module _ (s : List ℕ) where
+  pub reported-told : (p : ℕ) (r : Reported) → r ≡ reported s p
+      → reportedNumbers r
+      ≡ cond (ltb textLimit (length s)) (12 ∷ 0 ∷ 0 ∷ 0 ∷ []) (readableNumbers (verdict s) (lineColumn s p .line ∷ lineColumn s p .column ∷ []) (0 ∷ 0 ∷ []))
+  unfolding answered reported
+  reported-told p r e =
+      ap reportedNumbers e ∙ ap (λ (c : Checked). reportedNumbers (answered c (APlace (lineColumn s p)) NotReported)) (refusals s) ∙ go (ltb textLimit (length s)) (verdict s)
+    where
+      go : (b : Bool) (v : Utf8) → reportedNumbers (answered (cond b (Stopped (refusal TooLong 0)) (wellFormed v)) (APlace (lineColumn s p)) NotReported)
+          ≡ cond b (12 ∷ 0 ∷ 0 ∷ 0 ∷ []) (readableNumbers v (lineColumn s p .line ∷ lineColumn s p .column ∷ []) (0 ∷ 0 ∷ []))
+      go true v = refl
+      go false Valid = refl
+      go false (Bad q) = refl
+
+  pub located-told : (line column : ℕ) (r : Located) → r ≡ located s line column
+      → locatedNumbers r ≡ cond (ltb textLimit (length s)) (12 ∷ 0 ∷ 0 ∷ []) (readableNumbers (verdict s) (placeAt s line column ∷ []) (0 ∷ []))
+  unfolding answered located
+  located-told line column r e =
+      ap locatedNumbers e ∙ ap (λ (c : Checked). locatedNumbers (answered c (There (placeAt s line column)) NotLocated)) (refusals s) ∙ go (ltb textLimit (length s)) (verdict s)
+    where
+      go : (b : Bool) (v : Utf8) → locatedNumbers (answered (cond b (Stopped (refusal TooLong 0)) (wellFormed v)) (There (placeAt s line column)) NotLocated)
+          ≡ cond b (12 ∷ 0 ∷ 0 ∷ []) (readableNumbers v (placeAt s line column ∷ []) (0 ∷ []))
+      go true v = refl
+      go false Valid = refl
+      go false (Bad q) = refl
 
 -- ---- the LTK file
 -- `ltk::read` and `ltk::read_answer`; `ltk::read_numbers` with so many numbers

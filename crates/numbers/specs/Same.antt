@@ -20,11 +20,15 @@ use Rattle.escapes.specs.declared.Expanded.{Expanded}
 use Rattle.escapes.specs.declared.Expanded.the-variants.{Part as APart, Refused as NotExpanded}
 use Rattle.escapes.specs.declared.Held.{Held}
 use Rattle.escapes.specs.declared.Held.the-variants.{Buffer, Text}
+use Rattle.place.specs.declared.Located.{Located}
+use Rattle.place.specs.declared.Located.the-variants.{At as There, Refused as NotLocated}
+use Rattle.place.specs.declared.Reported.{Reported}
+use Rattle.place.specs.declared.Reported.the-variants.{At as APlace, Refused as NotReported}
 use Rattle.ltk.specs.declared.Answer.{Answer}
 use Rattle.ltk.specs.declared.Answer.the-variants.{Done, Refused as NotDone}
 use Rattle.ltk.specs.declared.Found.{Found}
 use Rattle.ltk.specs.declared.Found.the-variants.{Nothing, Record}
-use Rattle.numbers.specs.Values.{answerNumbers, checkedNumbers, expandedNumbers, foundNumbers, heldNumber, knownNumbers, outcomeNumbers, whatNumbers}
+use Rattle.numbers.specs.Values.{answerNumbers, checkedNumbers, expandedNumbers, foundNumbers, heldNumber, knownNumbers, locatedNumbers, outcomeNumbers, reportedNumbers, whatNumbers}
 
 -- ---- codes, kinds, refusals and tokens
 pub code-same : (c d : Code) → codeNumber c ≡ codeNumber d → c ≡ d
@@ -105,6 +109,21 @@ expanded-same (APart p) (APart q) e =
 expanded-same (APart p) (NotExpanded r) e = let h : codeNumber (r .code) ≡ 0 = cc in absurd (code-some (r .code) h)
 expanded-same (NotExpanded r) (APart p) e = let h : codeNumber (r .code) ≡ 0 = cc in absurd (code-some (r .code) h)
 expanded-same (NotExpanded q) (NotExpanded r) e = ap NotExpanded (refusal-same q r (cc) (cc))
+
+pub reported-same : (a b : Reported) → reportedNumbers a ≡ reportedNumbers b → a ≡ b
+reported-same (APlace p) (APlace q) e =
+    let h : p .line ≡ q .line = cc in
+    let i : p .column ≡ q .column = cc in
+    ap APlace (rw (h, i))
+reported-same (APlace p) (NotReported r) e = let h : codeNumber (r .code) ≡ 0 = cc in absurd (code-some (r .code) h)
+reported-same (NotReported r) (APlace q) e = let h : codeNumber (r .code) ≡ 0 = cc in absurd (code-some (r .code) h)
+reported-same (NotReported q) (NotReported r) e = ap NotReported (refusal-same q r (cc) (cc))
+
+pub located-same : (a b : Located) → locatedNumbers a ≡ locatedNumbers b → a ≡ b
+located-same (There p) (There q) e = ap There (cc)
+located-same (There p) (NotLocated r) e = let h : codeNumber (r .code) ≡ 0 = cc in absurd (code-some (r .code) h)
+located-same (NotLocated r) (There q) e = let h : codeNumber (r .code) ≡ 0 = cc in absurd (code-some (r .code) h)
+located-same (NotLocated q) (NotLocated r) e = ap NotLocated (refusal-same q r (cc) (cc))
 
 pub answer-same : (a b : Answer) → answerNumbers a ≡ answerNumbers b → a ≡ b
 answer-same (Done n) (Done m) e = ap Done (cc)

@@ -18,6 +18,10 @@ use Rattle.escapes.specs.declared.Expanded.{Expanded}
 use Rattle.escapes.specs.declared.Expanded.the-variants.{Part as APart, Refused as NotExpanded}
 use Rattle.escapes.specs.declared.Held.{Held}
 use Rattle.escapes.specs.declared.Held.the-variants.{Buffer, Text}
+use Rattle.place.specs.declared.Located.{Located}
+use Rattle.place.specs.declared.Located.the-variants.{At as There, Refused as NotLocated}
+use Rattle.place.specs.declared.Reported.{Reported}
+use Rattle.place.specs.declared.Reported.the-variants.{At as APlace, Refused as NotReported}
 use Rattle.ltk.specs.declared.Answer.{Answer}
 use Rattle.ltk.specs.declared.Answer.the-variants.{Done, Refused as NotDone}
 use Rattle.ltk.specs.declared.Found.{Found}
@@ -61,6 +65,16 @@ heldNumber Buffer = 1
 abbrev pub expandedNumbers : Expanded → List ℕ
 expandedNumbers (APart p) = noRefusal ++ (heldNumber (p .held) ∷ p .start ∷ p .end ∷ [])
 expandedNumbers (NotExpanded r) = refusalNumbers r ++ (0 ∷ 0 ∷ 0 ∷ [])
+
+-- `place::Reported`, of the reporter: line and column
+abbrev pub reportedNumbers : Reported → List ℕ
+reportedNumbers (APlace p) = noRefusal ++ (p .line ∷ p .column ∷ [])
+reportedNumbers (NotReported r) = refusalNumbers r ++ (0 ∷ 0 ∷ [])
+
+-- `place::Located`, of the way back: the place
+abbrev pub locatedNumbers : Located → List ℕ
+locatedNumbers (There p) = noRefusal ++ (p ∷ [])
+locatedNumbers (NotLocated r) = refusalNumbers r ++ (0 ∷ [])
 
 -- `ltk::Answer`, of the LTK reader and writer: how many records were read, or bytes written
 abbrev pub answerNumbers : Answer → List ℕ

@@ -87,6 +87,13 @@ fn lists() {
     list(true, b"32,769", &more);
 }
 
+// The column for people counts UTF-16 units, and a line ends at a CR too; of an ill-formed text the beginning is counted.
+fn columns() {
+    list(false, b"units", b"\xc3\xa9 \"\xf0\x9f\x98\x80\" $");
+    list(false, b"lines", b"a\r\nb\r $");
+    list(false, b"beginning", b"\xc3\xa9\r\n\xc3\xa9\xff");
+}
+
 fn packs() {
     pack(b"a file", b"ab");
     pack(b"refused", b"ab\n \"");
@@ -121,6 +128,7 @@ fn unpacks() {
 
 fn main() {
     lists();
+    columns();
     packs();
     unpacks();
 }

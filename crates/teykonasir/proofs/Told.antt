@@ -21,8 +21,9 @@ use Rattle.run.specs.Numbers.{numbersAll}
 use Rattle.run.specs.declared.Ran.{Ran}
 use Rattle.escapes.specs.Answers.{applied}
 use Rattle.escapes.specs.declared.Expanded.{Expanded}
-use Rattle.place.specs.Place.{lineColumn}
-use Rattle.place.specs.declared.Place.{Place}
+use Rattle.place.specs.Place.{located, reported}
+use Rattle.place.specs.declared.Located.{Located}
+use Rattle.place.specs.declared.Reported.{Reported}
 use Rattle.ltk.specs.Ltk.{entriesIn, readAnswer, readNumbers, writeAnswer, writtenBytes}
 use Rattle.ltk.specs.declared.Answer.{Answer}
 use Rattle.text.specs.Lay.{lay}
@@ -30,7 +31,7 @@ use Rattle.text.specs.Names.{codeName, kindName}
 use Rattle.text.specs.Stores.{lay-fit, lay-full}
 use Rattle.text.specs.declared.Came.{Came}
 use Rattle.text.specs.declared.Came.the-variants.{Full, To}
-use Rattle.teykonasir.specs.Calls.{Left, Resumed, tell, answerCode, answerCount, answerPlace, howCode, runNumbers, roomIn, runCall, resumed, resumeCall, expandCode, expandNumbers, expandCall, placeCall, ltkNumbers, readCall, writeCall, nameCall, kindNameCall, codeNameCall, cameCode, cameLength}
+use Rattle.teykonasir.specs.Calls.{Left, Resumed, tell, answerCode, answerCount, answerPlace, howCode, runNumbers, roomIn, runCall, resumed, resumeCall, expandCode, expandNumbers, expandCall, reportedCode, placeNumbers, placeCall, locatedCode, locatedNumber, placeAtCall, ltkNumbers, readCall, writeCall, nameCall, kindNameCall, codeNameCall, cameCode, cameLength}
 use Rattle.teykonasir.specs.State.{codeKnown, doneNumbers, stateNumbers, stateOf}
 use Rattle.teykonasir.specs.declared.KnownCode.the-variants.{Code as ACode}
 use Rattle.teykonasir.specs.declared.KnownState.{KnownState}
@@ -142,14 +143,14 @@ module _ (s : List ℕ) (idx0 : ℕ) (buffer : List ℕ) (place : ℕ) (answer :
 module _ (s : List ℕ) (p : ℕ) (answer : List ℕ) where
   pub place-short : length answer < 2 → (codeNumber NoRoom ≡ placeCall s p answer .result) × (answer ≡ placeCall s p answer .numbers)
   unfolding placeCall
-  place-short h = let l = short 2 0 (lineColumn s p .line ∷ lineColumn s p .column ∷ []) [] [] answer h in (l .0, l .2)
+  place-short h = let l = short 2 (reportedCode (reported s p)) (placeNumbers (reported s p)) [] [] answer h in (l .0, l .2)
 
-  pub place-whole : 2 ≤ length answer → (x : Place) → x ≡ lineColumn s p → (numbers : List ℕ) → numbers ≡ over (x .line ∷ x .column ∷ []) answer
-      → (0 ≡ placeCall s p answer .result) × (numbers ≡ placeCall s p answer .numbers)
+  pub place-whole : 2 ≤ length answer → (x : Reported) → x ≡ reported s p → (code : ℕ) (numbers : List ℕ) → code ≡ reportedCode x
+      → numbers ≡ over (placeNumbers x) answer → (code ≡ placeCall s p answer .result) × (numbers ≡ placeCall s p answer .numbers)
   unfolding placeCall
-  place-whole h x e numbers n =
-      let l = whole 2 0 (lineColumn s p .line ∷ lineColumn s p .column ∷ []) [] [] answer h 0 [] numbers refl refl
-      (n ∙ ap (λ (y : Place). over (y .line ∷ y .column ∷ []) answer) e) in
+  place-whole h x e code numbers c n =
+      let l = whole 2 (reportedCode (reported s p)) (placeNumbers (reported s p)) [] [] answer h code [] numbers (c ∙ ap reportedCode e) refl
+      (n ∙ ap (λ (y : Reported). over (placeNumbers y) answer) e) in
       (l .0, l .2)
 
 -- the LTK file, both ways
@@ -188,6 +189,21 @@ module _ (records buffer answer : List ℕ) where
 -- a name: the first number of the answer is set
 first : (n : ℕ) (answer : List ℕ) → 1 ≤ length answer → set answer 0 n ≡ over (n ∷ []) answer
 first n answer h = sets-over (n ∷ []) answer h
+
+-- the place of a line and a column is that number too
+module _ (s : List ℕ) (line column : ℕ) (answer : List ℕ) where
+  pub place-at-short : length answer < 1
+      → (codeNumber NoRoom ≡ placeAtCall s line column answer .result) × (answer ≡ placeAtCall s line column answer .numbers)
+  unfolding placeAtCall
+  place-at-short h = let l = short 1 (locatedCode (located s line column)) (locatedNumber (located s line column) ∷ []) [] [] answer h in (l .0, l .2)
+
+  pub place-at-whole : 1 ≤ length answer → (x : Located) → x ≡ located s line column → (code n : ℕ) → code ≡ locatedCode x → n ≡ locatedNumber x
+      → (code ≡ placeAtCall s line column answer .result) × (set answer 0 n ≡ placeAtCall s line column answer .numbers)
+  unfolding placeAtCall
+  place-at-whole h x e code n c m =
+      let l = whole 1 (locatedCode (located s line column)) (locatedNumber (located s line column) ∷ []) [] [] answer h code [] (set answer 0 n)
+      (c ∙ ap locatedCode e) refl (first n answer h ∙ ap (λ (y : ℕ). over (y ∷ []) answer) (m ∙ ap locatedNumber e)) in
+      (l .0, l .2)
 
 module _ (name buffer answer : List ℕ) where
   abbrev Call′ : Bool → Bool → Left

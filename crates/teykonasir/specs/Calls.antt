@@ -15,10 +15,14 @@ use Rattle.run.specs.Numbers.{groupSize, numbersAll}
 use Rattle.run.specs.declared.Ran.{Ran}
 use Rattle.escapes.specs.Answers.{applied}
 use Rattle.escapes.specs.declared.Expanded.{Expanded}
-use Rattle.place.specs.Place.{lineColumn}
+use Rattle.place.specs.Place.{located, reported}
+use Rattle.place.specs.declared.Located.{Located}
+use Rattle.place.specs.declared.Located.the-variants.{At as There, Refused as NotLocated}
+use Rattle.place.specs.declared.Reported.{Reported}
+use Rattle.place.specs.declared.Reported.the-variants.{At, Refused}
 use Rattle.ltk.specs.Ltk.{entriesIn, readAnswer, readNumbers, writeAnswer, writtenBytes}
 use Rattle.ltk.specs.declared.Answer.{Answer}
-use Rattle.numbers.specs.Values.{answerNumbers, expandedNumbers, outcomeNumbers}
+use Rattle.numbers.specs.Values.{answerNumbers, expandedNumbers, locatedNumbers, outcomeNumbers, reportedNumbers}
 use Rattle.text.specs.Names.{codeName, kindName}
 use Rattle.text.specs.declared.Came.{Came}
 use Rattle.text.specs.declared.Came.the-variants.{Full, To}
@@ -105,9 +109,28 @@ expandCall s idx0 buffer place answer =
     tell 4 (expandCode (applied s idx0 buffer place .answer)) (expandNumbers (applied s idx0 buffer place .answer))
     (applied s idx0 buffer place .buffer) buffer answer
 
--- ---- line and column: nothing else is lent
+-- ---- line and column: nothing else is lent. "`teyk_place` tells line and column; with 11 or 12 it tells the refusal's place and 0"
+abbrev pub reportedCode : Reported → ℕ
+reportedCode r = getD (reportedNumbers r) 0 0
+
+abbrev pub placeNumbers : Reported → List ℕ
+placeNumbers (At p) = p .line ∷ p .column ∷ []
+placeNumbers (Refused r) = r .place ∷ 0 ∷ []
+
 unfoldable pub placeCall : List ℕ → ℕ → List ℕ → Left
-placeCall s p answer = tell 2 0 (lineColumn s p .line ∷ lineColumn s p .column ∷ []) [] [] answer
+placeCall s p answer = tell 2 (reportedCode (reported s p)) (placeNumbers (reported s p)) [] [] answer
+
+-- ---- and back: the place, with 11 or 12 the refusal's
+abbrev pub locatedCode : Located → ℕ
+locatedCode l = getD (locatedNumbers l) 0 0
+
+abbrev pub locatedNumber : Located → ℕ
+locatedNumber (There p) = p
+locatedNumber (NotLocated r) = r .place
+
+unfoldable pub placeAtCall : List ℕ → ℕ → ℕ → List ℕ → Left
+placeAtCall s line column answer =
+    tell 1 (locatedCode (located s line column)) (locatedNumber (located s line column) ∷ []) [] [] answer
 
 -- ---- the LTK file: code, place, and how many records were read or bytes written
 abbrev pub answerCode : Answer → ℕ

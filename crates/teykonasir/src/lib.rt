@@ -2,6 +2,8 @@
 use escapes::Expanded;
 use escapes::Held;
 use ltk::Answer;
+use place::Located;
+use place::Reported;
 use reading::Outcome;
 use reading::Tokenizer;
 use record::Code;
@@ -14,7 +16,7 @@ ghost use Prim.Native.Nat.{_≤_};
 ghost use lib.ListN.{length};
 ghost use Rattle.record.specs.Records.{over};
 ghost use Rattle.numbers.specs.Values.{heldNumber};
-ghost use Rattle.teykonasir.specs.Calls.{howCode, howPlace, runNumbers, expandCode, expandNumbers, answerCode, answerPlace, answerCount, runCall, resumeCall, expandCall, placeCall, readCall, writeCall, kindNameCall, codeNameCall, cameCode, cameLength};
+ghost use Rattle.teykonasir.specs.Calls.{howCode, howPlace, runNumbers, expandCode, expandNumbers, reportedCode, placeNumbers, locatedCode, locatedNumber, answerCode, answerPlace, answerCount, runCall, resumeCall, expandCall, placeCall, placeAtCall, readCall, writeCall, kindNameCall, codeNameCall, cameCode, cameLength};
 ghost use Rattle.teykonasir.specs.State.{codeKnown, stateFrom, stateNumbers};
 
 // 01's numbers of a refusal for want of room, and of one for numbers that stand for nothing.
@@ -82,6 +84,42 @@ fn expand_code(e: Expanded) -> u64
             let code = r.code;
             record::code_number(code) as u64
         }
+    }
+}
+
+// A reported place's code: 0 where there is one.
+fn reported_code(told: Reported) -> u64
+    ensures { λ r. ⌜ r ≡ reportedCode told ⌝ }
+{
+    match told {
+        Reported::At(_) => 0,
+        Reported::Refused(r) => {
+            let code = r.code;
+            record::code_number(code) as u64
+        }
+    }
+}
+
+// The way back's code, the same.
+fn located_code(found: Located) -> u64
+    ensures { λ r. ⌜ r ≡ locatedCode found ⌝ }
+{
+    match found {
+        Located::At(_) => 0,
+        Located::Refused(r) => {
+            let code = r.code;
+            record::code_number(code) as u64
+        }
+    }
+}
+
+// The place that was found, or the refusal's.
+fn located_number(found: Located) -> u64
+    ensures { λ r. ⌜ r ≡ locatedNumber found ⌝ }
+{
+    match found {
+        Located::At(p) => p,
+        Located::Refused(r) => r.place,
     }
 }
 
@@ -287,6 +325,17 @@ fn put_expanded(answer: &mut [u64], e: Expanded)
     }
 }
 
+// Line and column, or the refusal's place and 0.
+fn put_reported(answer: &mut [u64], told: Reported)
+    requires { ⌜ 2 ≤ length (now answer) ⌝ }
+    ensures { λ _. ⌜ now (answer .exit) ≡ over (placeNumbers told) (now (answer .entry)) ⌝ }
+{
+    match told {
+        Reported::At(p) => put_two(answer, p.line, p.column),
+        Reported::Refused(r) => put_two(answer, r.place, 0),
+    }
+}
+
 // A whole run: each record is five numbers; the answer is code, place, number of records, advances.
 #[no_mangle]
 pub extern "C" fn teyk_run(
@@ -370,7 +419,7 @@ pub extern "C" fn teyk_expand(
     expand_code(e)
 }
 
-// Line and column of a place: the answer is these two.
+// Line and column of a place: the answer is these two, or the refusal's place and 0.
 #[no_mangle]
 pub extern "C" fn teyk_place(text: &[u8], place: u64, answer: &mut [u64]) -> u64
     ensures { λ r. ⌜
@@ -381,9 +430,25 @@ pub extern "C" fn teyk_place(text: &[u8], place: u64, answer: &mut [u64]) -> u64
     if answer.len() < 2 {
         return NO_ROOM;
     }
-    let p = place::line_column(text, place);
-    put_two(answer, p.line, p.column);
-    0
+    let told = place::line_column(text, place);
+    put_reported(answer, told);
+    reported_code(told)
+}
+
+// The place of a line and a column: the answer is that place, or the refusal's.
+#[no_mangle]
+pub extern "C" fn teyk_place_at(text: &[u8], line: u64, column: u64, answer: &mut [u64]) -> u64
+    ensures { λ r. ⌜
+        (r ≡ (placeAtCall (now (text .entry)) line column (now (answer .entry))) .result)
+        × (now (answer .exit) ≡ (placeAtCall (now (text .entry)) line column (now (answer .entry))) .numbers)
+        ⌝ }
+{
+    if answer.len() < 1 {
+        return NO_ROOM;
+    }
+    let found = place::place_at(text, line, column);
+    answer[0] = located_number(found);
+    located_code(found)
 }
 
 // Reads an LTK file into records of five numbers: the answer is code, place, number of records.
