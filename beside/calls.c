@@ -1,6 +1,6 @@
 /* Calls each C function and compares with what include/teykonasir.h says: that the header fits the archive is proved nowhere. From the
  * repository's root, on x86-64:
- *   rt staticlib teykonasir && cc -Iinclude beside/calls.c target/staticlib/libteykonasir.a -o target/calls && target/calls
+ *   rt staticlib teykonasir && rt staticlib teykonasir_sheet && cc -Iinclude beside/calls.c target/staticlib/lib*.a -o target/calls && target/calls
  */
 #include <stdio.h>
 #include <string.h>
@@ -270,6 +270,178 @@ static void places_compared(void)
     EXPECT(texts == 9331 && there == 117573 && back == 9331 * (MOST + 3) * (2 * MOST + 2));
 }
 
+/* ---- the sheet once more, by the request's words alone: from teyk_run's records, and the characters of the gaps between them */
+static size_t counted(const uint8_t *text, size_t from, size_t to)
+{
+    size_t n = 0;
+    for (size_t i = from; i < to; i += width(text[i]))
+        n++;
+    return n;
+}
+
+/* the comment at a place that has a slash: where it ends. A block is closed where as many are closed as were opened */
+static size_t comment_end(const uint8_t *text, size_t at, size_t to)
+{
+    size_t open = 0;
+    if (text[at + 1] == '/') {
+        while (at < to && text[at] != '\n')
+            at++;
+        return at;
+    }
+    do {
+        if (text[at] == '/' && text[at + 1] == '*')
+            open++, at += 2;
+        else if (text[at] == '*' && text[at + 1] == '/')
+            open--, at += 2;
+        else
+            at++;
+    } while (open && at < to);
+    return at;
+}
+
+static void gap_adds(uint64_t *adds, const uint8_t *text, size_t at, size_t to)
+{
+    while (at < to) {
+        size_t end = text[at] == '/' ? comment_end(text, at, to) : at + width(text[at]);
+        adds[text[at] == '/' ? TEYK_SHEET_IN_COMMENTS : TEYK_SHEET_IN_WHITESPACE] += counted(text, at, end);
+        at = end;
+    }
+}
+
+/* what a text adds to a sheet, and the code and the place of it */
+static void text_adds(uint64_t *adds, uint64_t *answer, const uint8_t *text, size_t length)
+{
+    uint64_t records[TEYK_RECORD * 4 * MOST];
+    size_t at = 0;
+    memset(adds, 0, TEYK_SHEET * sizeof *adds);
+    teyk_run(text, length, 0, (uint64_t)1 << 50, NUMBERS(records), answer, TEYK_RUN_ANSWER);
+    adds[TEYK_SHEET_TAKEN] = 1;
+    if (answer[0]) {
+        adds[TEYK_SHEET_TALLY + answer[0]] = 1;
+        return;
+    }
+    for (const uint64_t *r = records; r < records + TEYK_RECORD * answer[2]; r += TEYK_RECORD) {
+        int dropped = r[0] == TEYK_KIND_SHEBANG_ATTRIBUTE && r[2] < length;
+        gap_adds(adds, text, at, r[1]);
+        adds[r[0]]++;
+        adds[TEYK_SHEET_IN_TOKENS] += counted(text, r[1], r[2]);
+        adds[TEYK_SHEET_DROPPED] += dropped;
+        adds[TEYK_SHEET_FAILED] += r[0] == TEYK_KIND_HASH;
+        at = r[2] + (dropped ? width(text[r[2]]) : 0);
+    }
+    gap_adds(adds, text, at, length);
+    adds[TEYK_SHEET_ADVANCES] = answer[3];
+}
+
+#define BEYOND 2 /* numbers after the sheet, which stay */
+
+static uint64_t sheet[TEYK_SHEET + BEYOND], sums[TEYK_SHEET], taken_texts, ended, tallied, full_sheets;
+
+/* a sheet with 1,024 texts: one more is refused, and it holds their sums */
+static void full(const uint8_t *text, size_t length)
+{
+    uint64_t answer[3] = {9, 9, 9};
+    full_sheets++;
+    EXPECT(teyk_sheet_take(text, length, NUMBERS(sheet), NUMBERS(answer)) == TEYK_SHEET_FULL);
+    EXPECT(answer[0] == 21 && answer[1] == 0 && answer[2] == 9);
+    EXPECT(!memcmp(sheet, sums, sizeof sums) && sheet[TEYK_SHEET_TAKEN] == TEYK_SHEET_TEXTS);
+    memset(sheet, 0, sizeof sums);
+    memset(sums, 0, sizeof sums);
+}
+
+/* the text is taken by the one sheet that all are taken by, until it is full */
+static void sheet_compare(const uint8_t *text, size_t length)
+{
+    uint64_t adds[TEYK_SHEET], ran[TEYK_RUN_ANSWER], answer[3] = {9, 9, 9};
+    text_adds(adds, ran, text, length);
+    taken_texts++;
+    ended += ran[0] == 0;
+    tallied += ran[0] != 0;
+    if (teyk_sheet_take(text, length, NUMBERS(sheet), NUMBERS(answer)) != ran[0] || answer[0] != ran[0] || answer[1] != ran[1] || answer[2] != 9)
+        differs("teyk_sheet_take", text, length, answer[0], answer[1]);
+    for (size_t i = 0; i < TEYK_SHEET; i++) {
+        sums[i] += adds[i];
+        if (sheet[i] != sums[i])
+            differs("the sheet's number", text, length, i, sheet[i]);
+        sums[i] = sheet[i];
+    }
+    EXPECT(sheet[TEYK_SHEET] == 7 && sheet[TEYK_SHEET + 1] == UINT64_MAX);
+    if (sums[TEYK_SHEET_TAKEN] == TEYK_SHEET_TEXTS)
+        full(text, length);
+}
+
+static void sheet_compare_all(const char *const *alphabet, size_t letters, uint8_t *text, size_t length, int more)
+{
+    sheet_compare(text, length);
+    for (size_t i = 0; more && i < letters; i++) {
+        memcpy(text + length, alphabet[i], strlen(alphabet[i]));
+        sheet_compare_all(alphabet, letters, text, length + strlen(alphabet[i]), more - 1);
+    }
+}
+
+/* texts of all kinds, and longer ones of what comments are made of: the shortest that are nested have eight characters */
+static void sheets_compared(void)
+{
+    static const char *const all[] = {"a", " ", "\n", "/", "*", "#", "!", "[", "]", "\303\251", "\343\200\200"}, *const comments[] = {"/", "*", "\n"};
+    uint8_t text[4 * MOST];
+    sheet[TEYK_SHEET] = 7;
+    sheet[TEYK_SHEET + 1] = UINT64_MAX;
+    sheet_compare_all(NUMBERS(all), text, 0, MOST);
+    sheet_compare_all(NUMBERS(comments), text, 0, 9);
+    EXPECT(taken_texts == 177156 + 29524 && full_sheets == 201 && ended == 124493 && tallied == 82187);
+}
+
+/* a sheet of 96 numbers with so many texts taken, and one number that is m */
+static int refuses(const uint8_t *text, size_t length, uint64_t taken, size_t i, uint64_t m, uint64_t code, uint64_t place)
+{
+    uint64_t before[TEYK_SHEET + 1], after[TEYK_SHEET + 1], answer[3] = {9, 9, 9};
+    memset(before, 0, sizeof before);
+    before[TEYK_SHEET_TAKEN] = taken;
+    before[i] = m;
+    memcpy(after, before, sizeof before);
+    return teyk_sheet_take(text, length, NUMBERS(after), NUMBERS(answer)) == code && answer[0] == code && answer[1] == place && answer[2] == 9
+        && !memcmp(before, after, sizeof before);
+}
+
+static int takes(uint64_t taken, size_t i, uint64_t m)
+{
+    uint64_t after[TEYK_SHEET + 1] = {0}, answer[2];
+    after[TEYK_SHEET_TAKEN] = taken;
+    after[i] = m;
+    return teyk_sheet_take(BYTES("="), NUMBERS(after), NUMBERS(answer)) == 0 && answer[0] == 0 && answer[1] == 0
+        && after[TEYK_SHEET_TAKEN] == taken + 1 && after[i] == m + (i == TEYK_SHEET_TAKEN || i == TEYK_KIND_EQUALS);
+}
+
+static void sheets_refused(void)
+{
+    const uint64_t most = (uint64_t)1 << 50;
+    const size_t length = (size_t)TEYK_TEXT_LIMIT + 1;
+    uint64_t small[TEYK_SHEET], answer[2] = {77, 77};
+    uint8_t *text = mmap(NULL, length, PROT_READ | PROT_WRITE, MAP_PRIVATE | MAP_ANONYMOUS | MAP_NORESERVE, -1, 0);
+    EXPECT(text != MAP_FAILED);
+    if (text == MAP_FAILED)
+        return;
+    text[1] = 255;
+    /* a short answer, a short sheet, 12, 11, 21, 20: each with all that come after it */
+    memset(small, 255, sizeof small);
+    EXPECT(teyk_sheet_take(text, length, small, TEYK_SHEET - 1, answer, 1) == TEYK_NO_ROOM && answer[0] == 77);
+    EXPECT(teyk_sheet_take(BYTES("="), small, TEYK_SHEET, answer, 1) == TEYK_NO_ROOM && answer[0] == 77);
+    EXPECT(teyk_sheet_take(text, length, small, TEYK_SHEET - 1, NUMBERS(answer)) == TEYK_NO_ROOM && answer[0] == 14 && answer[1] == 0);
+    EXPECT(teyk_sheet_take(BYTES("="), small, 0, NUMBERS(answer)) == TEYK_NO_ROOM && answer[0] == 14 && answer[1] == 0);
+    for (size_t i = 0; i < TEYK_SHEET; i++)
+        EXPECT(small[i] == UINT64_MAX);
+    EXPECT(refuses(text, length, 1024, 5, UINT64_MAX, TEYK_TOO_LONG, 0) && refuses(text, length - 1, 1024, 5, UINT64_MAX, TEYK_NOT_UTF8, 1));
+    EXPECT(refuses(BYTES("="), 1024, 5, UINT64_MAX, TEYK_SHEET_FULL, 0) && refuses(BYTES("."), 1024, 5, 0, TEYK_SHEET_FULL, 0));
+    EXPECT(refuses(BYTES("="), UINT64_MAX, 5, 0, TEYK_SHEET_FULL, 0) && refuses(BYTES("="), 1023, 5, UINT64_MAX, TEYK_BAD_RECORD, 0));
+    /* 20 exactly above 2^50 for each text taken, in any of the 96 numbers and in none beyond them */
+    for (size_t i = 0; i < TEYK_SHEET; i++)
+        EXPECT(i == TEYK_SHEET_TAKEN || (refuses(BYTES("="), 0, i, 1, TEYK_BAD_RECORD, 0) && refuses(BYTES("."), 3, i, 3 * most + 1, TEYK_BAD_RECORD, 0)));
+    for (size_t i = 0; i < TEYK_SHEET; i++)
+        EXPECT(i == TEYK_SHEET_TAKEN || (i >= TEYK_SHEET_IN_TOKENS && i <= TEYK_SHEET_FAILED) || takes(1023, i, 1023 * most));
+    EXPECT(takes(0, TEYK_SHEET, UINT64_MAX) && takes(0, 0, 0) && takes(1023, TEYK_SHEET_TAKEN, 1023));
+    munmap(text, length);
+}
+
 static void files(void)
 {
     const uint64_t records[] = {TEYK_KIND_USE, 0, 4, 3, 4, TEYK_KIND_SEMI, 4, 5, 4, 4, 1};
@@ -299,6 +471,8 @@ int main(void)
     places_back();
     places_refused();
     places_compared();
+    sheets_compared();
+    sheets_refused();
     files();
     printf(wrong ? "%d not so\n" : "all as the header says\n", wrong);
     return wrong != 0;

@@ -11,7 +11,7 @@
 #define PAINT 0xA5
 
 static const char *const called[] = {"nothing", "teyk_run", "teyk_resume", "teyk_expand", "teyk_place", "teyk_place_at", "teyk_ltk_write",
-                                     "teyk_ltk_read", "teyk_name_of_kind", "teyk_name_of_code"};
+                                     "teyk_ltk_read", "teyk_sheet_take", "teyk_name_of_kind", "teyk_name_of_code"};
 enum { CALLS = sizeof called / sizeof *called };
 
 static const char *const shapes[] = {
@@ -21,7 +21,7 @@ static const char *const shapes[] = {
 };
 
 static uint8_t text[LONGEST], buffer[TEYK_LTK_SIZE(LONGEST)], stack[1 << 16];
-static uint64_t records[TEYK_RECORD * LONGEST], count;
+static uint64_t records[TEYK_RECORD * LONGEST], sheet[TEYK_SHEET], count;
 static size_t length, most[CALLS];
 static int which;
 
@@ -43,8 +43,10 @@ static void call(void)
         teyk_ltk_write(records, TEYK_RECORD * count, buffer, sizeof buffer, answer, 4);
     else if (which == 7)
         teyk_ltk_read(buffer, TEYK_LTK_SIZE(count), records, TEYK_RECORD * LONGEST, answer, 4);
-    for (uint64_t n = 0; which > 7 && n <= TEYK_KINDS; n++)
-        (which == 8 ? teyk_name_of_kind : teyk_name_of_code)(n, text, TEYK_NAME_MOST, answer, 4);
+    else if (which == 8)
+        teyk_sheet_take(text, length, sheet, TEYK_SHEET, answer, 4);
+    for (uint64_t n = 0; which > 8 && n <= TEYK_KINDS; n++)
+        (which == 9 ? teyk_name_of_kind : teyk_name_of_code)(n, text, TEYK_NAME_MOST, answer, 4);
 }
 
 static void measure(void)

@@ -1,7 +1,8 @@
 /* teykonasir.h: the proved tokenizer of LALRPOP grammars, for C.
  *
- * The archive target/staticlib/libteykonasir.a is made by `rt staticlib teykonasir`, for x86-64 Linux. It needs memcpy of the C library and
- * nothing else, and takes no memory beyond what is lent to it and a fixed stack.
+ * The archive target/staticlib/libteykonasir.a is made by `rt staticlib teykonasir`, for x86-64 Linux. teyk_sheet_take alone stands in an archive
+ * of its own, libteykonasir_sheet.a, made by `rt staticlib teykonasir_sheet`; a program may link both. They need memcpy and memset of the C library
+ * and nothing else, and take no memory beyond what is lent to them and a fixed stack.
  *
  * What every function has in common
  *   - A slice is two arguments, its pointer and its length in elements. A pointer is never NULL, not even with length 0; uint64_t
@@ -13,9 +14,9 @@
  *   - Nothing else is written than what is said here.
  *   - Threads: there is no state but what is lent. Every function may be called from any number of threads at once, as long as no slice
  *     that one call writes is used by another.
- *   - Stack: no function calls itself. The frames of the deepest chain of calls in the archive's code take 2,384 bytes together, and 128
- *     below the last of them may be used; 1,680 were seen used on a painted stack (both by beside/stack). Where the dynamic loader binds
- *     memcpy only at its first call, that call takes some 3,200 more.
+ *   - Stack: no function calls itself. The frames of the deepest chain of calls in the archives' code take 2,384 bytes together, those of
+ *     teyk_sheet_take 2,928, and 128 below the last of them may be used; 1,680 and 2,192 were seen used on a painted stack (both by
+ *     beside/stack). Where the dynamic loader binds memcpy or memset only at its first call, that call takes some 3,200 more.
  *   - Words are Unicode 15.0.0's: XID_Start, XID_Continue and White_Space.
  */
 #ifndef TEYKONASIR_H
@@ -28,12 +29,12 @@
 extern "C" {
 #endif
 
-#define TEYK_VERSION "4.1.0"
+#define TEYK_VERSION "4.2.0"
 #define TEYK_VERSION_MAJOR 4
-#define TEYK_VERSION_MINOR 1
+#define TEYK_VERSION_MINOR 2
 #define TEYK_VERSION_PATCH 0
 
-/* The codes. 1 to 10 are LALRPOP's own; nothing answers 21 to 29 yet. */
+/* The codes. 1 to 10 are LALRPOP's own; nothing answers 22 to 29 yet. */
 enum teyk_code {
     TEYK_END = 0, /* nothing is refused; of a run: the end of the text */
     TEYK_UNRECOGNIZED_TOKEN = 1, /* no token starts here, or half a symbol */
@@ -55,8 +56,8 @@ enum teyk_code {
     TEYK_BAD_MARK = 17, /* LTK: the mark is wrong or cut */
     TEYK_UNKNOWN_VERSION = 18, /* LTK: the version is not 1 */
     TEYK_BAD_LENGTH = 19, /* LTK: the length does not fit the count */
-    TEYK_BAD_RECORD = 20, /* LTK: a record that no run gives; a state that is no tokenizer's; a number that has no name */
-    TEYK_SHEET_FULL = 21,
+    TEYK_BAD_RECORD = 20, /* LTK: a record that no run gives; a state that is no tokenizer's; a number that has no name; no sheet */
+    TEYK_SHEET_FULL = 21, /* a sheet that has taken 1,024 texts */
     TEYK_HALF_SYMBOL = 22,
     TEYK_STRAY_CHARACTER = 23,
     TEYK_UNKNOWN_READING = 24,
@@ -147,7 +148,24 @@ enum teyk_kind {
 #define TEYK_PLACE_ANSWER 2
 #define TEYK_PLACE_AT_ANSWER 1
 #define TEYK_LTK_ANSWER 3
+#define TEYK_SHEET_ANSWER 2
 #define TEYK_NAME_ANSWER 1
+
+/* How many numbers a sheet has, and the most texts that it takes. */
+#define TEYK_SHEET 96
+#define TEYK_SHEET_TEXTS 1024
+
+/* Which number of a sheet is what: the tokens of a kind stand at the kind's number. */
+enum teyk_sheet {
+    TEYK_SHEET_IN_TOKENS = 54, /* characters in tokens */
+    TEYK_SHEET_IN_WHITESPACE = 55, /* characters in whitespace */
+    TEYK_SHEET_IN_COMMENTS = 56, /* characters in comments */
+    TEYK_SHEET_DROPPED = 57, /* characters dropped after attributes */
+    TEYK_SHEET_ADVANCES = 58, /* advances */
+    TEYK_SHEET_FAILED = 59, /* failed attribute attempts */
+    TEYK_SHEET_TAKEN = 60, /* texts taken, those that ended in an error counted */
+    TEYK_SHEET_TALLY = 64 /* and the code more: texts that ended in that error */
+};
 
 /* How many bytes the LTK file of n records has. */
 #define TEYK_LTK_SIZE(n) (9 + 9 * (n))
@@ -262,6 +280,32 @@ uint64_t teyk_ltk_read(const uint8_t *file, size_t file_len, uint64_t *records, 
  * They are tested in this order. A refusal tells 0 bytes and writes none; bytes beyond the file are not written. */
 uint64_t teyk_ltk_write(const uint64_t *records, size_t records_len, uint8_t *buffer, size_t buffer_len, uint64_t *answer,
                         size_t answer_len);
+
+/* Takes a text onto a sheet of totals, which takes texts one after another: what many grammars hold.
+ *
+ * A sheet is the first 96 numbers of `sheet`, at first all 0; numbers beyond them are not written. The text is read with shift 0 and a limit
+ * of 2^50, and no list is needed for its tokens. A text that is read to its end adds its own totals to
+ *    0 to 53   the tokens of each kind, by the kind's number
+ *   54 to 57   the characters in tokens, in whitespace, in comments, and those dropped after attributes (one each, if there is one); together
+ *              they are all characters of the text
+ *   58         its advances: these characters, and what failed attempts cost
+ *   59         the failed attribute attempts
+ *   60         1: a text taken
+ * A text that ends in an error adds 1 to number 64 + code, 1 to number 60, and nothing else. To 61, 62, 63 and the other numbers nothing is
+ * added. The order of the texts does not matter, as long as all of them are taken.
+ *
+ * answer: code, place. The result is the code:
+ *    0         the text was taken, and read to its end; the place is 0
+ *    1 to 10   it was taken, and ended there in this error, which was tallied (3, 4 and 7 never come)
+ *   15         the same; the place is where the next call would have begun. It takes a text with more than 2^50 advances
+ *   14         fewer than 96 numbers in `sheet`; place 0. With an `answer` of fewer than two numbers nothing is written
+ *   12         more than 2,147,483,647 bytes; place 0
+ *   11         the place is the first byte of the first ill-formed sequence
+ *   21         number 60 is 1,024 or more: the sheet is full; place 0
+ *   20         one of the 96 numbers is above 2^50 for each text taken (2^50 x number 60), which no sheet begun with zeros ever has; place 0
+ * A short `answer` is tested first, then a short `sheet`, then 12, 11, 21, 20. These refuse the text: it is not counted, and `sheet` stays as
+ * it was. */
+uint64_t teyk_sheet_take(const uint8_t *text, size_t text_len, uint64_t *sheet, size_t sheet_len, uint64_t *answer, size_t answer_len);
 
 /* Writes the name of a kind (0 to 53), and of a code (1 to 29), as `teyk list` prints it: ASCII, and no zero byte after it.
  *

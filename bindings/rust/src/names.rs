@@ -143,7 +143,7 @@ numbered! {
         17 BadMark "the file's mark is wrong or cut",
         18 UnknownVersion "the file's version is not 1",
         19 BadLength "the file's length does not fit its count",
-        20 BadRecord "a record or a state that no run gives",
+        20 BadRecord "a record or a state that no run gives, or no sheet",
         21 SheetFull "the sheet takes no further text",
         22 HalfSymbol "half a symbol",
         23 StrayCharacter "a character that starts no token",

@@ -32,7 +32,7 @@ use Rattle.ltk.specs.declared.Entry.{Entry}
 use Rattle.ledger.specs.Order.{Ordered, at-most-left, found, of-run, ordered}
 
 -- a kind's number is at most 53: a number above has no kind
-kind-small : (k : Kind) → kindNumber k ≤ lastKind
+pub kind-small : (k : Kind) → kindNumber k ≤ lastKind
 unfolding kindOf
 kind-small k = go (ltb (kindNumber k) 54) refl
   where

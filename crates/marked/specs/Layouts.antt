@@ -2,7 +2,8 @@
 use mathlib.Core.List.{List, [], _∷_}
 use mathlib.Core.Path.{_≡_, refl}
 use Prim.Native.Nat.{ℕ}
-use Rattle.teykonasir.specs.Calls.{Left, expandCall, placeAtCall, placeCall, readCall, runCall, tell, writeCall}
+use Rattle.numbers.specs.Leaves.{Left, tell}
+use Rattle.teykonasir.specs.Calls.{expandCall, placeAtCall, placeCall, readCall, runCall, writeCall}
 use Rattle.escapes.specs.Answers.{applied, expanded}
 use Rattle.escapes.specs.Escapes.{asciiEscape, digit, escape as escapeOf, expand, expandFrom, hasByte, stands}
 use Rattle.ltk.specs.Layout.{little, numberAt}

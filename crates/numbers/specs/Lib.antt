@@ -2,5 +2,6 @@
 pub mod Values
 pub mod Promised
 pub mod Inner
+pub mod Leaves
 -- the laws that lead there: no two answers have the same numbers
 pub mod Same

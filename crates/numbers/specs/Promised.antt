@@ -46,8 +46,10 @@ use Rattle.ltk.specs.declared.Answer.the-variants.{Done, Refused as NotDone}
 use Rattle.ltk.specs.declared.Entry.{Entry}
 use Rattle.ltk.specs.declared.Found.{Found}
 use Rattle.ltk.specs.declared.Found.the-variants.{Record}
-use Rattle.numbers.specs.Same.{answer-same, code-some, checked-same, expanded-same, found-same, known-same, located-same, outcome-same, reported-same, what-same}
-use Rattle.numbers.specs.Values.{answerNumbers, checkedNumbers, expandedNumbers, foundNumbers, knownNumbers, locatedNumbers, outcomeNumbers, refusalNumbers, reportedNumbers, whatNumbers}
+use Rattle.sheet.specs.Sheet.{taken}
+use Rattle.sheet.specs.declared.Taken.{Taken}
+use Rattle.numbers.specs.Same.{answer-same, code-some, checked-same, expanded-same, found-same, known-same, located-same, outcome-same, reported-same, taken-same, what-same}
+use Rattle.numbers.specs.Values.{answerNumbers, checkedNumbers, expandedNumbers, foundNumbers, knownNumbers, locatedNumbers, outcomeNumbers, refusalNumbers, reportedNumbers, takenNumbers, whatNumbers}
 
 -- an answer is the one that is promised exactly if its numbers are
 abbrev pub Tells : {A : Type 0} → (A → List ℕ) → A → A → Type 0
@@ -284,3 +286,7 @@ record-told file i r e = simp (e, numbers-test foundNumbers, entry-told (entryAt
 
 pub record-tells : (r d : Found) → Tells foundNumbers r d
 record-tells r d = tells foundNumbers found-same r d
+
+-- ---- the sheet. `sheet::take`
+pub take-told : (s sheet : List ℕ) (r : Taken) → Tells takenNumbers r (taken s sheet)
+take-told s sheet r = tells takenNumbers taken-same r _

@@ -1,4 +1,5 @@
 -- Nothing is lost by the numbers: no two answers have the same.
+use Prim.Native.Nat.{ℕ}
 use native.Mathlib.Omega.{arith}
 use mathlib.Core.Path.{_≡_, refl, sym, ap, _∙_}
 use Rattle.record.specs.Numbers.{code-again, codeNumber, codeOf, codes, kind-again, kindNumber, kindOf}
@@ -28,7 +29,9 @@ use Rattle.ltk.specs.declared.Answer.{Answer}
 use Rattle.ltk.specs.declared.Answer.the-variants.{Done, Refused as NotDone}
 use Rattle.ltk.specs.declared.Found.{Found}
 use Rattle.ltk.specs.declared.Found.the-variants.{Nothing, Record}
-use Rattle.numbers.specs.Values.{answerNumbers, checkedNumbers, expandedNumbers, foundNumbers, heldNumber, knownNumbers, locatedNumbers, outcomeNumbers, reportedNumbers, whatNumbers}
+use Rattle.sheet.specs.declared.Taken.{Taken}
+use Rattle.sheet.specs.declared.Taken.the-variants.{Refused as NotTaken, Tallied, Whole}
+use Rattle.numbers.specs.Values.{answerNumbers, checkedNumbers, expandedNumbers, foundNumbers, heldNumber, knownNumbers, locatedNumbers, outcomeNumbers, reportedNumbers, takenNumbers, whatNumbers}
 
 -- ---- codes, kinds, refusals and tokens
 pub code-same : (c d : Code) → codeNumber c ≡ codeNumber d → c ≡ d
@@ -136,3 +139,14 @@ found-same (Record t) (Record u) e = ap Record (token-same t u e)
 found-same (Record t) Nothing e = cc
 found-same Nothing (Record u) e = cc
 found-same Nothing Nothing e = refl
+
+pub taken-same : (a b : Taken) → takenNumbers a ≡ takenNumbers b → a ≡ b
+taken-same Whole Whole e = refl
+taken-same Whole (Tallied r) e = let h : codeNumber (r .code) ≡ 0 = cc in absurd (code-some (r .code) h)
+taken-same Whole (NotTaken r) e = let z : _≡_ {A = ℕ} 0 1 = cc in absurd (omega arith)
+taken-same (Tallied r) Whole e = let h : codeNumber (r .code) ≡ 0 = cc in absurd (code-some (r .code) h)
+taken-same (Tallied q) (Tallied r) e = ap Tallied (refusal-same q r (cc) (cc))
+taken-same (Tallied q) (NotTaken r) e = let z : _≡_ {A = ℕ} 0 1 = cc in absurd (omega arith)
+taken-same (NotTaken r) Whole e = let z : _≡_ {A = ℕ} 0 1 = cc in absurd (omega arith)
+taken-same (NotTaken q) (Tallied r) e = let z : _≡_ {A = ℕ} 0 1 = cc in absurd (omega arith)
+taken-same (NotTaken q) (NotTaken r) e = ap NotTaken (refusal-same q r (cc) (cc))

@@ -26,6 +26,8 @@ use Rattle.ltk.specs.declared.Answer.{Answer}
 use Rattle.ltk.specs.declared.Answer.the-variants.{Done, Refused as NotDone}
 use Rattle.ltk.specs.declared.Found.{Found}
 use Rattle.ltk.specs.declared.Found.the-variants.{Nothing, Record}
+use Rattle.sheet.specs.declared.Taken.{Taken}
+use Rattle.sheet.specs.declared.Taken.the-variants.{Refused as NotTaken, Tallied, Whole}
 
 -- 01: "A refusal is a record of its code and its place."
 abbrev pub refusalNumbers : Refusal → List ℕ
@@ -85,3 +87,9 @@ answerNumbers (NotDone r) = refusalNumbers r ++ (0 ∷ [])
 abbrev pub foundNumbers : Found → List ℕ
 foundNumbers (Record t) = numbersOf t
 foundNumbers Nothing = []
+
+-- `sheet::Taken`, of a sheet that is handed a text: 1 where the text was taken, else 0; then the refusal, which is the text's error where that was tallied
+abbrev pub takenNumbers : Taken → List ℕ
+takenNumbers Whole = 1 ∷ noRefusal
+takenNumbers (Tallied r) = 1 ∷ refusalNumbers r
+takenNumbers (NotTaken r) = 0 ∷ refusalNumbers r

@@ -29,7 +29,7 @@ abbrev pub neverPlace : List ℕ
 neverPlace = 1 ∷ 2 ∷ 3 ∷ 4 ∷ 5 ∷ 6 ∷ 7 ∷ 8 ∷ 9 ∷ 10 ∷ 13 ∷ 14 ∷ 15 ∷ 16 ∷ 17 ∷ 18 ∷ 19 ∷ 20 ∷ newCodes
 
 -- a refusal of the checks with no shift
-unshifted : (s : List ℕ) (r : Refusal) → checks s 0 ≡ Stopped r → OneOf placeCodes (r .code)
+pub unshifted : (s : List ℕ) (r : Refusal) → checks s 0 ≡ Stopped r → OneOf placeCodes (r .code)
 unfolding among
 unshifted s r e = go (ltb textLimit (length s)) (verdict s) (sym (refusals s) ∙ e)
   where

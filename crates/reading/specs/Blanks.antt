@@ -158,13 +158,13 @@ pub comment-blank : (cs : List ℕ) (at p m : ℕ) → commentEnd cs at ≡ At p
 comment-blank cs at p m e = comment-from p m cs (Open 1) at 0 m (omega arith) (omega arith) e
 
 -- ---- the rest of a line
-record Line (n m : ℕ) (cs : List ℕ) : Type 0 where
-  passed : ℕ
-  counted : m ≡ n + passed
-  one : oneLine (take passed cs) ≡ true
-  over : lineOver (drop passed cs) ≡ true
+pub record Line (n m : ℕ) (cs : List ℕ) : Type 0 where
+  pub passed : ℕ
+  pub counted : m ≡ n + passed
+  pub one : oneLine (take passed cs) ≡ true
+  pub over : lineOver (drop passed cs) ≡ true
 
-line-from : (p m : ℕ) (cs : List ℕ) (st : Bool) (at n : ℕ) → upTo (until (seekStep Newline) seekDone st cs at n) ≡ Past p m → Line n m cs
+pub line-from : (p m : ℕ) (cs : List ℕ) (st : Bool) (at n : ℕ) → upTo (until (seekStep Newline) seekDone st cs at n) ≡ Past p m → Line n m cs
 unfolding until oneLine lineOver
 line-from p m [] st at n e = let y : n ≡ m = cc in record { passed = 0; counted = omega arith; one = refl; over = refl }
 line-from p m (c ∷ cs) st at n e = go (eqb c 10) refl (line-from p m cs (eqb c 10) (at + widthOf c) (n + 1))

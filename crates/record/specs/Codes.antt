@@ -27,7 +27,7 @@ among n (m ∷ ms) = eqb n m || among n ms
 abbrev pub OneOf : List ℕ → Code → Type 0
 OneOf ns c = among (codeNumber c) ns ≡ true
 
--- 02's nine numbers: no part answers one of them yet
+-- 02's nine numbers: the sheet answers 21 (02, E2), no part another of them yet
 abbrev pub newCodes : List ℕ
 newCodes = 21 ∷ 22 ∷ 23 ∷ 24 ∷ 25 ∷ 26 ∷ 27 ∷ 28 ∷ 29 ∷ []
 

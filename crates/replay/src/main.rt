@@ -1,6 +1,7 @@
 // The Rust's recorded answers, asked again: standard input holds cases with the answers that the Rust gave (tools/record makes the file). Each text is
-// asked in three forms, each expansion in one, and every number of an answer is compared. After the ordinary cases stand planted ones, whose recorded
-// answers are wrong on purpose: for each of them, in each form, the difference is printed, so that the stored run shows that differences are seen.
+// asked in three forms, each expansion in one, and every number of an answer is compared. The texts are also taken on sheets, of 1,024 texts each, and every
+// total is compared with the sum of the recorded answers. After the ordinary cases stand planted ones, whose recorded answers are wrong on purpose: for each
+// of them, in each form, the difference is printed, so that the stored run shows that differences are seen. (The program filled shows that of the sums.)
 //
 // The file is a list of cases. A case is the length of its bytes and the length of its numbers, of two bytes each, little-endian, then both. A number
 // is its digits to the base 128, the highest first, with 128 added to all but the last.
@@ -14,6 +15,7 @@
 
 mod file;
 mod say;
+mod sums;
 
 use say::Case;
 
@@ -43,17 +45,35 @@ fn main() {
 
 // The four parts of the file, after its head.
 fn all(texts: u64, expansions: u64, planted_texts: u64, planted_expansions: u64) {
-    let a = part(true, false, true, texts);
-    let b = part(a.whole, false, false, expansions);
-    let c = part(b.whole, true, true, planted_texts);
-    let d = part(c.whole, true, false, planted_expansions);
+    let mut page = sums::empty_row();
+    let mut row = sums::empty_row();
+    let a = part(true, false, true, texts, &mut page, &mut row);
+    let sums = sums::compare(a.same, &mut page, &row);
+    let b = part(a.whole, false, false, expansions, &mut page, &mut row);
+    let c = part(b.whole, true, true, planted_texts, &mut page, &mut row);
+    let d = part(
+        c.whole,
+        true,
+        false,
+        planted_expansions,
+        &mut page,
+        &mut row,
+    );
     if d.whole {
-        finish(texts, expansions, a.same & b.same);
+        finish(texts, expansions, a.same & b.same & sums);
     }
 }
 
-// A part of the file, where it is whole so far: so many cases of one kind. Of the ordinary ones the first that differs is said.
-fn part(whole: bool, planted: bool, is_text: bool, count: u64) -> Found {
+// A part of the file, where it is whole so far: so many cases of one kind. Of the ordinary ones the first that differs is said. Page and row are the sheet
+// that the ordinary texts are on, and the sums of their recorded answers.
+fn part(
+    whole: bool,
+    planted: bool,
+    is_text: bool,
+    count: u64,
+    page: &mut [u64],
+    row: &mut [u64],
+) -> Found {
     let mut found = Found { whole, same: true };
     let mut i: u64 = 0;
     while i < count {
@@ -61,12 +81,16 @@ fn part(whole: bool, planted: bool, is_text: bool, count: u64) -> Found {
             return found;
         }
         let same = found.same;
-        found = one(Case {
-            planted,
-            said: planted | same,
-            is_text,
-            index: i,
-        });
+        found = one(
+            Case {
+                planted,
+                said: planted | same,
+                is_text,
+                index: i,
+            },
+            page,
+            row,
+        );
         found.same = found.same & same;
         i += 1;
     }
@@ -89,7 +113,7 @@ fn finish(texts: u64, expansions: u64, same: bool) {
 }
 
 // The next case of the file.
-fn one(c: Case) -> Found {
+fn one(c: Case, page: &mut [u64], row: &mut [u64]) -> Found {
     let mut bytes = [0u8; BYTES];
     let mut numbers = [0u64; NUMBERS];
     let read = file::next(&mut bytes, &mut numbers);
@@ -103,10 +127,19 @@ fn one(c: Case) -> Found {
             same: false,
         };
     }
+    let sums = counted(c, &bytes[0..b], &numbers[0..n], page, row);
     Found {
         whole: true,
-        same: !differs(c, &bytes[0..b], &numbers[0..n]),
+        same: !differs(c, &bytes[0..b], &numbers[0..n]) & sums,
     }
+}
+
+// An ordinary text is taken on the sheet; whether no sheet differed.
+fn counted(c: Case, text: &[u8], numbers: &[u64], page: &mut [u64], row: &mut [u64]) -> bool {
+    if c.is_text & !c.planted {
+        return sums::add(c.said, text, numbers, page, row);
+    }
+    true
 }
 
 // Whether any form of a case answers otherwise than is recorded.

@@ -132,6 +132,23 @@ fn difference(f: usize, d: Difference) {
     }
 }
 
+// A sheet that differs from the sums of the recorded answers.
+pub(crate) fn sum(d: Difference) {
+    match d {
+        Difference::Same => {}
+        Difference::Length(r, a) => {
+            say(b"length of a sheet");
+            both(r, a);
+        }
+        Difference::Number(i, r, a) => {
+            say(b"number ");
+            number(i as u64);
+            say(b" of a sheet");
+            both(r, a);
+        }
+    }
+}
+
 // Whether a form of a case differs. A difference is said, and of a planted case also that there is none.
 pub(crate) fn differs(c: Case, f: usize, d: Difference) -> bool {
     match d {

@@ -53,7 +53,7 @@ fn words_in(out: &mut [u8], at: usize, words: &[u8]) -> usize
 const MOST_DIGITS: usize = 20;
 
 // How many digits a number has.
-fn width(n: u64) -> usize
+pub fn width(n: u64) -> usize
     ensures { λ r. ⌜ r ≡ width n ⌝ }
 {
     let mut m = n;
@@ -401,6 +401,26 @@ pub fn code_name(out: &mut [u8], from: Came, code: u64) -> Came
         from,
         [
             Piece::Code(code),
+            Piece::Nothing,
+            Piece::Nothing,
+            Piece::Nothing,
+            Piece::Nothing,
+            Piece::Nothing,
+            Piece::Nothing,
+            Piece::Nothing,
+        ],
+    )
+}
+
+// A number's digits.
+pub fn number(out: &mut [u8], from: Came, n: u64) -> Came
+    ensures { λ r. ⌜ (r ≡ lay (now (out .entry)) from (digits n) .to) × (now (out .exit) ≡ lay (now (out .entry)) from (digits n) .held) ⌝ }
+{
+    compose(
+        out,
+        from,
+        [
+            Piece::Number(n),
             Piece::Nothing,
             Piece::Nothing,
             Piece::Nothing,

@@ -31,25 +31,12 @@ use Rattle.text.specs.Names.{codeName, kindName}
 use Rattle.text.specs.Stores.{lay-fit, lay-full}
 use Rattle.text.specs.declared.Came.{Came}
 use Rattle.text.specs.declared.Came.the-variants.{Full, To}
-use Rattle.teykonasir.specs.Calls.{Left, Resumed, tell, answerCode, answerCount, answerPlace, howCode, runNumbers, roomIn, runCall, resumed, resumeCall, expandCode, expandNumbers, expandCall, reportedCode, placeNumbers, placeCall, locatedCode, locatedNumber, placeAtCall, ltkNumbers, readCall, writeCall, nameCall, kindNameCall, codeNameCall, cameCode, cameLength}
+use Rattle.numbers.specs.Leaves.{Leaves, Left, short, tell, whole}
+use Rattle.teykonasir.specs.Calls.{Resumed, answerCode, answerCount, answerPlace, howCode, runNumbers, roomIn, runCall, resumed, resumeCall, expandCode, expandNumbers, expandCall, reportedCode, placeNumbers, placeCall, locatedCode, locatedNumber, placeAtCall, ltkNumbers, readCall, writeCall, nameCall, kindNameCall, codeNameCall, cameCode, cameLength}
 use Rattle.teykonasir.specs.State.{codeKnown, doneNumbers, stateNumbers, stateOf}
 use Rattle.teykonasir.specs.declared.KnownCode.the-variants.{Code as ACode}
 use Rattle.teykonasir.specs.declared.KnownState.{KnownState}
 use Rattle.teykonasir.specs.declared.KnownState.the-variants.{State as AState, Nothing as NoState}
-
--- what a function's contract says of a call: its result, the lent slice and the answer afterwards
-abbrev pub Leaves : Left → ℕ → List ℕ → List ℕ → Type 0
-Leaves l r lent numbers = (r ≡ l .result) × (lent ≡ l .lent) × (numbers ≡ l .numbers)
-
-module _ (size code : ℕ) (told new old answer : List ℕ) where
-  pub short : length answer < size → Leaves (tell size code told new old answer) (codeNumber NoRoom) old answer
-  unfolding tell
-  short h = rw (lt-ltb (length answer) size h) (refl, refl, refl)
-
-  pub whole : size ≤ length answer → (r : ℕ) (lent numbers : List ℕ) → r ≡ code → lent ≡ new → numbers ≡ over told answer
-      → Leaves (tell size code told new old answer) r lent numbers
-  unfolding tell
-  whole h r lent numbers a b c = rw (le-ltb (length answer) size h) (a, b, c)
 
 -- four, three and two numbers of an answer, each told by a function of it
 module _ (answer : List ℕ) where

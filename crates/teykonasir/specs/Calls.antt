@@ -22,6 +22,7 @@ use Rattle.place.specs.declared.Reported.{Reported}
 use Rattle.place.specs.declared.Reported.the-variants.{At, Refused}
 use Rattle.ltk.specs.Ltk.{entriesIn, readAnswer, readNumbers, writeAnswer, writtenBytes}
 use Rattle.ltk.specs.declared.Answer.{Answer}
+use Rattle.numbers.specs.Leaves.{Left, tell}
 use Rattle.numbers.specs.Values.{answerNumbers, expandedNumbers, locatedNumbers, outcomeNumbers, reportedNumbers}
 use Rattle.text.specs.Names.{codeName, kindName}
 use Rattle.text.specs.declared.Came.{Came}
@@ -29,20 +30,6 @@ use Rattle.text.specs.declared.Came.the-variants.{Full, To}
 use Rattle.teykonasir.specs.State.{stateNumbers, stateOf}
 use Rattle.teykonasir.specs.declared.KnownState.{KnownState}
 use Rattle.teykonasir.specs.declared.KnownState.the-variants.{State as AState, Nothing as NoState}
-
--- what a call leaves: its result, what the lent slice holds, and what `answer` holds
-pub record Left : Type 0 where
-  pub result : ℕ
-  pub lent : List ℕ
-  pub numbers : List ℕ
-
--- With fewer numbers in `answer` than are told, "nothing is written, the result is 14"; else they are its first numbers, and those
--- beyond them stay
-unfoldable pub tell : ℕ → ℕ → List ℕ → List ℕ → List ℕ → List ℕ → Left
-tell size code told new old answer =
-    cond (ltb (length answer) size)
-    (record { result = codeNumber NoRoom; lent = old; numbers = answer })
-    (record { result = code; lent = new; numbers = over told answer })
 
 -- ---- a run. "`answer` gets code (0 at the end), place, number of records, advances; the result is the code."
 abbrev pub howCode : Outcome → ℕ

@@ -20,7 +20,8 @@ use Rattle.reading.specs.declared.Outcome.{Outcome}
 use Rattle.reading.specs.declared.Outcome.the-variants.{Ended, Refused, Running}
 use Rattle.reading.specs.declared.Tokenizer.{Tokenizer}
 use Rattle.run.specs.Checked.{ranOf, ranWith, wholeRunWith}
-use Rattle.teykonasir.specs.Calls.{resumeCall, resumed, roomIn, runCall, tell}
+use Rattle.numbers.specs.Leaves.{tell}
+use Rattle.teykonasir.specs.Calls.{resumeCall, resumed, roomIn, runCall}
 use Rattle.teykonasir.specs.State.{codeKnown, doneNumbers, refusedAt, stateAt, stateFrom, stateNumbers, stateOf}
 use Rattle.teykonasir.specs.declared.KnownCode.the-variants.{Code as ACode, Nothing as NoCode}
 use Rattle.teykonasir.specs.declared.KnownState.{KnownState}

@@ -45,7 +45,7 @@ fn comment_turn(s: &[u8], at: usize, o: usize) -> Turn
 }
 
 // The character c at a place, with the text going on at next.
-fn gap_turn(s: &[u8], at: usize, next: usize, c: u32) -> Turn
+pub fn gap_turn(s: &[u8], at: usize, next: usize, c: u32) -> Turn
     ensures { λ r. ⌜ r ≡ gapTurn 0 c (left (now (s .entry)) next) at next ⌝ }
 {
     if c == signs::SLASH {
@@ -64,7 +64,7 @@ fn wide(x: u8) -> u32
 }
 
 // Where the bytes below 128 from a place end that are white space: for speed alone.
-fn gap_run(s: &[u8], from: usize) -> usize
+pub fn gap_run(s: &[u8], from: usize) -> usize
     ensures { λ r. ⌜ r ≡ from + run gapStop (drop from (now (s .entry))) ⌝ }
 {
     let mut at = from;

@@ -1,6 +1,6 @@
 // The tokenizer: gaps, symbols, words, attributes; one call.
 mod attribute;
-mod gaps;
+pub mod gaps;
 mod identifier;
 pub mod next;
 mod regex;

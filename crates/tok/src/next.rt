@@ -80,7 +80,8 @@ fn token(s: &[u8], c: u32, o: usize, next: usize) -> Call
     reading::plain(kind, o, next, 1)
 }
 
-fn token_or_end(s: &[u8], o: usize) -> Call
+// The token, the error or the end at a place where no gap is.
+pub fn token_or_end(s: &[u8], o: usize) -> Call
     ensures { λ r. ⌜ r ≡ tokenOrEnd (left (now (s .entry)) o) o ⌝ }
 {
     match utf8::char_at(s, o) {
