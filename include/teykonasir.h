@@ -29,15 +29,16 @@
 extern "C" {
 #endif
 
-#define TEYK_VERSION "4.2.0"
+#define TEYK_VERSION "4.3.0"
 #define TEYK_VERSION_MAJOR 4
-#define TEYK_VERSION_MINOR 2
+#define TEYK_VERSION_MINOR 3
 #define TEYK_VERSION_PATCH 0
 
-/* The codes. 1 to 10 are LALRPOP's own; nothing answers 22 to 29 yet. */
+/* The codes. 1 to 10 are LALRPOP's own. Its 1 is answered as 22 or 23 since version 4.3.0, at the same place: who wants LALRPOP's code takes both for 1.
+ * No text is answered 1, nor 24 to 29 yet; only teyk_resume repeats whatever code a caller puts into its state as `done`. */
 enum teyk_code {
     TEYK_END = 0, /* nothing is refused; of a run: the end of the text */
-    TEYK_UNRECOGNIZED_TOKEN = 1, /* no token starts here, or half a symbol */
+    TEYK_UNRECOGNIZED_TOKEN = 1, /* of no text: it is 22 or 23 */
     TEYK_UNTERMINATED_ESCAPE = 2, /* a backtick is not closed */
     TEYK_UNTERMINATED_ASCII_ESCAPE = 3, /* expansion: `\x` with fewer than two characters after it */
     TEYK_UNRECOGNIZED_ESCAPE = 4, /* expansion: an escape that is none */
@@ -58,8 +59,8 @@ enum teyk_code {
     TEYK_BAD_LENGTH = 19, /* LTK: the length does not fit the count */
     TEYK_BAD_RECORD = 20, /* LTK: a record that no run gives; a state that is no tokenizer's; a number that has no name; no sheet */
     TEYK_SHEET_FULL = 21, /* a sheet that has taken 1,024 texts */
-    TEYK_HALF_SYMBOL = 22,
-    TEYK_STRAY_CHARACTER = 23,
+    TEYK_HALF_SYMBOL = 22, /* half a symbol: a lone `.` `~` `-` `/` or `@`, or `=>@` with neither L nor R after it */
+    TEYK_STRAY_CHARACTER = 23, /* a character that starts nothing */
     TEYK_UNKNOWN_READING = 24,
     TEYK_TOO_DEEP = 25,
     TEYK_TEXT_MISMATCH = 26,
@@ -183,7 +184,8 @@ enum teyk_sheet {
  *
  * answer: code, place, number of records, advances. The result is the code:
  *    0         the end of the text; the place is 0
- *    1 to 10   the text is refused there; the records before it stand (3, 4 and 7 never come)
+ *    2 to 10   the text is refused there; the records before it stand (3, 4 and 7 never come)
+ *   22, 23     the same: half a symbol, or a character that starts nothing
  *   11         the place is the first byte of the first ill-formed sequence, plus shift; no record, 0 advances
  *   12, 13     place 0; no record, 0 advances
  *   14         a further token had no room; the place is its start. With an `answer` of fewer than four numbers nothing is written
@@ -296,7 +298,8 @@ uint64_t teyk_ltk_write(const uint64_t *records, size_t records_len, uint8_t *bu
  *
  * answer: code, place. The result is the code:
  *    0         the text was taken, and read to its end; the place is 0
- *    1 to 10   it was taken, and ended there in this error, which was tallied (3, 4 and 7 never come)
+ *    2 to 10   it was taken, and ended there in this error, which was tallied (3, 4 and 7 never come)
+ *   22, 23     the same: half a symbol, or a character that starts nothing
  *   15         the same; the place is where the next call would have begun. It takes a text with more than 2^50 advances
  *   14         fewer than 96 numbers in `sheet`; place 0. With an `answer` of fewer than two numbers nothing is written
  *   12         more than 2,147,483,647 bytes; place 0

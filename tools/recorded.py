@@ -13,7 +13,7 @@ MOST = 65535  # bytes of a case
 BUFFER = 4096  # bytes of the buffer that replay lends
 TOKENS = 4000  # tokens that replay has room for
 
-# in the order of the Rust's enums, which is 01's numbering
+# in the order of the Rust's enums, which is 01's numbering; the codes are the Rust's own, and replay maps ours to them
 KINDS = ('Enum Extern Grammar Match Else If Mut Pub In Type Where For Dyn Use Escape Id MacroId Lifetime StringLiteral CharLiteral RegexLiteral Ampersand '
          'BangEquals BangTilde Colon ColonColon Comma DotDot Equals EqualsEquals EqualsGreaterThanCode EqualsGreaterThanQuestionCode '
          'EqualsGreaterThanLookahead EqualsGreaterThanLookbehind Hash GreaterThan LeftBrace LeftBracket LeftParen LessThan Lookahead Lookbehind '

@@ -114,7 +114,8 @@ numbered! {
 }
 
 numbered! {
-    /// Why something is refused: 1 to 29, of which 1 to 10 are LALRPOP's; the functions of this crate answer none above 20. It is shown as a sentence; [`Code::name`] is its name.
+    /// Why something is refused: 1 to 29, of which 1 to 10 are LALRPOP's. LALRPOP's 1 is answered as 22 or 23 ([`Code::rust_code`] is the way back); no text is answered 1 or any above 23. It is
+    /// shown as a sentence; [`Code::name`] is its name.
     ///
     /// ```
     /// use teykonasir::Code;
@@ -146,7 +147,7 @@ numbered! {
         20 BadRecord "a record or a state that no run gives, or no sheet",
         21 SheetFull "the sheet takes no further text",
         22 HalfSymbol "half a symbol",
-        23 StrayCharacter "a character that starts no token",
+        23 StrayCharacter "a character that starts nothing",
         24 UnknownReading "no such reading",
         25 TooDeep "too many brackets are open at once",
         26 TextMismatch "the text does not give these records",
@@ -160,6 +161,22 @@ impl Kind {
     /// What it is, in a word or two.
     pub const fn about(self) -> &'static str {
         self.doc()
+    }
+}
+
+impl Code {
+    /// The code that LALRPOP has for it: `UnrecognizedToken` is both `HalfSymbol` and `StrayCharacter`; any other code stays.
+    ///
+    /// ```
+    /// use teykonasir::Code;
+    /// assert_eq!(Code::HalfSymbol.rust_code(), Code::UnrecognizedToken);
+    /// assert_eq!(Code::UnterminatedCode.rust_code(), Code::UnterminatedCode);
+    /// ```
+    pub const fn rust_code(self) -> Code {
+        match self {
+            Code::HalfSymbol | Code::StrayCharacter => Code::UnrecognizedToken,
+            other => other,
+        }
     }
 }
 

@@ -9,8 +9,9 @@ pub(crate) const NUMBERS: usize = 5;
 /// Reads a text to its end or to the first refusal, into a lent slice.
 ///
 /// Places are bytes plus `shift`; `limit` bounds the advances. The records before a refusal stand; those beyond `stored` are as they were. The
-/// refusals, by their order: `TooLong`, `ShiftTooLarge` (place 0), `NotUtf8` (the first byte of the first ill-formed sequence), then LALRPOP's own;
-/// `NoRoom` names the start of a token that had no room, and `WorkLimit` the place where a call would begin that goes above the limit.
+/// refusals, by their order: `TooLong`, `ShiftTooLarge` (place 0), `NotUtf8` (the first byte of the first ill-formed sequence), then LALRPOP's own, with
+/// `HalfSymbol` or `StrayCharacter` for its `UnrecognizedToken`; `NoRoom` names the start of a token that had no room, and `WorkLimit` the place where
+/// a call would begin that goes above the limit.
 /// A text of n bytes has at most n tokens ([`most_records`]).
 ///
 /// ```

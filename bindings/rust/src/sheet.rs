@@ -159,7 +159,7 @@ mod tests {
         assert_eq!((sheet.take("a "), sheet.take("a\u{e9}")), (REFUSED(Code::SheetFull, 0), REFUSED(Code::SheetFull, 0)));
         assert_eq!(sheet, full);
         assert_eq!((full.texts(), full.tokens(Kind::Id), full.in_tokens(), full.in_whitespace(), full.advances()), (1024, 512, 512, 512, 1024));
-        assert_eq!((full.tally(Code::UnrecognizedToken), full.numbers().iter().sum::<u64>()), (512, 1024 + 512 * 6));
+        assert_eq!((full.tally(Code::HalfSymbol), full.numbers().iter().sum::<u64>()), (512, 1024 + 512 * 6));
     }
 
     #[test]

@@ -252,9 +252,9 @@ fn tok_of<'input>(record: &Record, text: &'input str, shift: usize) -> Tok<'inpu
     }
 }
 
-/// A refusal as LALRPOP's error; it panics for those that LALRPOP has no code for.
+/// A refusal as LALRPOP's error, which does not tell half a symbol from a stray character; it panics for those that LALRPOP has no code for.
 fn error_of(refusal: Refusal) -> Error {
-    let code = match refusal.code {
+    let code = match refusal.code.rust_code() {
         Code::UnrecognizedToken => ErrorCode::UnrecognizedToken,
         Code::UnterminatedEscape => ErrorCode::UnterminatedEscape,
         Code::UnterminatedAsciiEscape => ErrorCode::UnterminatedAsciiEscape,

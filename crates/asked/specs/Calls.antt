@@ -7,6 +7,7 @@ use mathlib.Core.Path.{_≡_, _∙_, ap, refl, sym}
 use lib.ListN.{length, length-replicate}
 use Rattle.record.specs.Numbers.{codeNumber}
 use Rattle.record.specs.Records.{refusal}
+use Rattle.record.specs.Rust.{rustNumber}
 use Rattle.record.specs.declared.Checked.the-variants.{Passed, Refused as Stopped}
 use Rattle.record.specs.declared.Code.the-variants.{BadRecord}
 use Rattle.record.specs.declared.Refusal.{Refusal}
@@ -79,7 +80,7 @@ module _ (s : List ℕ) (shift : ℕ) (recorded : List ℕ) where
       pub called-differs : ((f : Difference) → d ≡ onward d f) → d ≡ calledDiffers s shift recorded
       called-differs q = q after ∙ sym onto
 
-    pub called-error : (f : Refusal) (d : Difference) → r .what ≡ Error f → d ≡ endDiffers s shift recorded n (codeNumber (f .code)) (f .place) (r .next)
+    pub called-error : (f : Refusal) (d : Difference) → r .what ≡ Error f → d ≡ endDiffers s shift recorded n (rustNumber (codeNumber (f .code))) (f .place) (r .next)
         → d ≡ calledDiffers s shift recorded
     called-error f d w p = p ∙ sym (rw w at turn)
 

@@ -6,6 +6,7 @@ use lib.Dec.{eqb, leb, ltb}
 use lib.ListN.{drop, length, replicate, take}
 use Rattle.record.specs.Numbers.{codeNumber, kindNumber}
 use Rattle.record.specs.Records.{over}
+use Rattle.record.specs.Rust.{rustNumber}
 use Rattle.record.specs.declared.Token.{Token}
 use Rattle.reading.specs.Answers.{startState}
 use Rattle.reading.specs.declared.Outcome.{Outcome}
@@ -34,9 +35,9 @@ roomFor = 20000
 unfoldable pub blank : List ℕ
 blank = replicate roomFor 9999999999999999999
 
--- a refusal's number and place; 0 at the end, and 255, which no refusal has, for a run that goes on
+-- a refusal's number, as the Rust has it, and its place; 0 at the end, and 255, which no refusal has, for a run that goes on
 abbrev pub codeOf : Outcome → ℕ
-codeOf (Refused r) = codeNumber (r .code)
+codeOf (Refused r) = rustNumber (codeNumber (r .code))
 codeOf Ended = 0
 codeOf Running = 255
 
@@ -100,7 +101,7 @@ module _ (s : List ℕ) (shift : ℕ) (recorded : List ℕ) where
   module _ (rest : ℕ → Tokenizer → Difference) (n : ℕ) (u : Tokenizer) where
     abbrev pub callDiffers : What → Difference
     callDiffers (Got t) = onward (tokenDiffers n t) (rest (n + 1) u)
-    callDiffers (Error r) = endDiffers n (codeNumber (r .code)) (r .place) u
+    callDiffers (Error r) = endDiffers n (rustNumber (codeNumber (r .code))) (r .place) u
     callDiffers End = endDiffers n 0 0 u
 
   -- so many calls more, after n tokens

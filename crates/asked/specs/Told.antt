@@ -1,4 +1,4 @@
--- THE THEOREMS: where nothing differs, what is recorded is our answer. Of a run: five numbers, and then five for each token.
+-- THE THEOREMS: where nothing differs, what is recorded is our answer, 22 and 23 as the Rust's 1. Of a run: five numbers, and then five for each token.
 use Prim.Native.Nat.{_*_, _≤_, ℕ}
 use native.Mathlib.Omega.{arith}
 use mathlib.Core.List.{List, [], _∷_, _++_}
@@ -8,9 +8,13 @@ use lib.Seq.{take-at}
 use borrow.Author.Tests.{le-ltb}
 use Rattle.record.specs.Numbers.{codeNumber}
 use Rattle.record.specs.Records.{over}
+use Rattle.record.specs.Rust.{rust-number}
 use Rattle.record.specs.declared.Token.{Token}
 use Rattle.reading.specs.Answers.{startState}
-use Rattle.run.specs.Checked.{ranOf, ranWith, wholeRun}
+use Rattle.reading.specs.Next.{next}
+use Rattle.reading.specs.declared.Outcome.{Outcome}
+use Rattle.reading.specs.declared.Outcome.the-variants.{Ended, Refused as Stopped, Running}
+use Rattle.run.specs.Checked.{ranOf, ranWith, wholeRun, wholeRunWith}
 use Rattle.run.specs.Numbers.{numbersAll}
 use Rattle.run.specs.declared.Ran.{Ran}
 use Rattle.run.proofs.Groups.{all-length}
@@ -18,6 +22,10 @@ use Rattle.escapes.specs.Answers.{Done, applied, partCheck, partOf}
 use Rattle.escapes.specs.declared.Expanded.{Expanded}
 use Rattle.escapes.specs.declared.Expanded.the-variants.{Part as APart, Refused}
 use Rattle.lent.specs.Copies.{fitted, highestLimit, listRoom}
+use Rattle.unknown.specs.Map.{rustOutcome, rustRan}
+use Rattle.unknown.specs.Runs.{ran-mapped, whole-mapped}
+use Rattle.unknown.specs.Rust as rust
+use Rattle.unknown.specs.Theorems.{one-call}
 use Rattle.recorded.specs.Recorded.{differ}
 use Rattle.recorded.specs.Same.{no-difference}
 use Rattle.recorded.specs.declared.Difference.{Difference}
@@ -63,6 +71,24 @@ fits : (ts : List Token) → length ts ≤ mostTokens → fitted (numbersAll ts)
 unfolding fitted
 fits ts l = let n = all-length ts in rw (le-ltb (length blank) (length (numbersAll ts)) (omega (arith, n, blank-length)))
 
+-- the same by the codes as they are
+abbrev pub rustCodeOf : Outcome → ℕ
+rustCodeOf (Stopped r) = codeNumber (r .code)
+rustCodeOf Ended = 0
+rustCodeOf Running = 255
+
+abbrev pub rustAnswered : Ran → List Token → List ℕ
+rustAnswered r ts = headOf (r .stored) (rustCodeOf (r .how)) (placeOf (r .how)) (r .advances) (r .state .at) ++ numbersAll ts
+
+answers-same : (r : Ran) (ts : List Token) → answered r ts ≡ rustAnswered (rustRan r) ts
+answers-same r ts = go (r .how)
+  where
+    go : (how : Outcome) → headOf (r .stored) (codeOf how) (placeOf how) (r .advances) (r .state .at) ++ numbersAll ts
+        ≡ headOf (r .stored) (rustCodeOf (rustOutcome how)) (placeOf (rustOutcome how)) (r .advances) (r .state .at) ++ numbersAll ts
+    go (Stopped z) = rw (rust-number (z .code))
+    go Ended = refl
+    go Running = refl
+
 module _ (s : List ℕ) (shift : ℕ) (recorded : List ℕ) where
   abbrev tokens : ℕ → List Token
   tokens room = wholeRun s shift highestLimit room startState .tokens
@@ -76,6 +102,22 @@ module _ (s : List ℕ) (shift : ℕ) (recorded : List ℕ) where
       → recorded ≡ answered (ranOf s shift highestLimit mostTokens startState) (tokens mostTokens)
   unfolding ranWith
   numbered-told l e = run-told recorded _ (tokens mostTokens) _ (drop (length (numbersAll (tokens mostTokens))) blank) refl l refl e
+
+  -- ---- and it is what 01's own definition answers, with no map (unknown/specs/Rust)
+  as-rust : (room : ℕ) → answered (ranOf s shift highestLimit room startState) (tokens room)
+      ≡ rustAnswered (ranWith rust.next s shift highestLimit room startState) (wholeRunWith rust.next s shift highestLimit room startState .tokens)
+  as-rust room =
+      let r = ran-mapped rust.next next one-call s shift highestLimit room startState in
+      let w = whole-mapped rust.next next one-call s shift highestLimit room startState in
+      rw (r, w) (answers-same (ranOf s shift highestLimit room startState) (tokens room))
+
+  pub listed-rust : length (tokens listRoom) ≤ mostTokens → listedDiffers s shift recorded ≡ Same
+      → recorded ≡ rustAnswered (ranWith rust.next s shift highestLimit listRoom startState) (wholeRunWith rust.next s shift highestLimit listRoom startState .tokens)
+  listed-rust l e = listed-told l e ∙ as-rust listRoom
+
+  pub numbered-rust : length (tokens mostTokens) ≤ mostTokens → numberedDiffers s shift recorded ≡ Same
+      → recorded ≡ rustAnswered (ranWith rust.next s shift highestLimit mostTokens startState) (wholeRunWith rust.next s shift highestLimit mostTokens startState .tokens)
+  numbered-rust l e = numbered-told l e ∙ as-rust mostTokens
 
 -- and of an expansion: six numbers, and then its bytes
 abbrev pub expandedNumbers : List ℕ → List ℕ → Expanded → List ℕ

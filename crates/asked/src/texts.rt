@@ -3,6 +3,7 @@ use reading::Outcome;
 use reading::Tokenizer;
 use reading::What;
 use record::Checked;
+use record::Refusal;
 use record::Token;
 use recorded::Difference;
 use recorded::front;
@@ -12,6 +13,8 @@ use run::Ran;
 ghost use mathlib.Core.Path.{_≡_};
 ghost use Prim.Native.Nat.{_≤_};
 ghost use lib.ListN.{length};
+ghost use Rattle.record.specs.Numbers.{codeNumber};
+ghost use Rattle.record.specs.Rust.{rustNumber};
 ghost use Rattle.asked.specs.Answers.{answerDiffers};
 ghost use Rattle.asked.specs.Texts.{blank, calledDiffers, codeOf, endDiffers, isRead, kindOf, lengthDiffers, listedDiffers, numberedDiffers, placeOf, runDiffers, size, tokenDiffers};
 
@@ -34,15 +37,20 @@ fn blank() -> [u64; 20000]
     [BLANK; ROOM]
 }
 
-// A refusal's number; 0 at the end, and 255, which no refusal has, for a run that goes on.
+// A refusal's number, as the Rust has it.
+fn rust_code(r: Refusal) -> u64
+    ensures { λ n. ⌜ n ≡ rustNumber (codeNumber (r .code)) ⌝ }
+{
+    let c = r.code;
+    record::rust_number(record::code_number(c)) as u64
+}
+
+// The same of an outcome; 0 at the end, and 255, which no refusal has, for a run that goes on.
 fn code(how: Outcome) -> u64
     ensures { λ r. ⌜ r ≡ codeOf how ⌝ }
 {
     match how {
-        Outcome::Refused(r) => {
-            let c = r.code;
-            record::code_number(c) as u64
-        }
+        Outcome::Refused(r) => rust_code(r),
         Outcome::Ended => 0,
         Outcome::Running => 255,
     }
@@ -204,16 +212,7 @@ pub fn called(text: &[u8], shift: u64, recorded: &[u64]) -> Difference
                 }
             }
             What::Error(r) => {
-                let c = r.code;
-                return end_differs(
-                    text,
-                    shift,
-                    recorded,
-                    n,
-                    record::code_number(c) as u64,
-                    r.place,
-                    t,
-                );
+                return end_differs(text, shift, recorded, n, rust_code(r), r.place, t);
             }
             What::End => return end_differs(text, shift, recorded, n, 0, 0, t),
         }

@@ -51,7 +51,7 @@ string-has = refl
 call-bare : (cs : List ℕ) (at : ℕ) (t : Token) → next cs at .what ≡ Got t → Bare t
 call-bare cs at t e =
     let h = next-says Bare (λ (c : Code). Unit {0}) (λ kind o p h. record { from = λ _. refl; to = λ _. refl })
-    (λ kind o p from to k s. has kind o p from to k) tt tt tt tt tt tt tt (λ o p from to. has StringLiteral o p from to string-has) cs at in
+    (λ kind o p from to k s. has kind o p from to k) tt tt tt tt tt tt tt tt (λ o p from to. has StringLiteral o p from to string-has) cs at in
     let w : SaysIn Bare (λ (c : Code). Unit {0}) (Got t) = rw e at (h .is) in
     w
 

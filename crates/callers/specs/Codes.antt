@@ -1,4 +1,4 @@
--- WHICH CODES COME OUT. Of the reading only 1, 2, 5, 6, 8, 9 and 10: so 3, 4 and 7, 16 to 20 and all above never come out of a call or a run.
+-- WHICH CODES COME OUT. Of the reading only 2, 5, 6, 8, 9, 10, 22 and 23: so 1, 3, 4 and 7, 16 to 21 and those from 24 on never come out of a call or a run.
 use Prim.Native.Nat.{ℕ}
 use native.Mathlib.Omega.{arith}
 use mathlib.Core.Bool.{false, true}
@@ -6,7 +6,7 @@ use mathlib.Core.List.{List, [], _∷_}
 use mathlib.Core.Path.{_≡_, refl, sym, _∙_}
 use lib.ListN.{length}
 use Rattle.record.specs.Checks.{checks}
-use Rattle.record.specs.Codes.{Apart, OneOf, Refuses, among, checks-refuse, each, newCodes, none-of, one-of, refused-for}
+use Rattle.record.specs.Codes.{Apart, OneOf, Refuses, among, checks-refuse, each, none-of, one-of, refused-for}
 use Rattle.record.specs.Numbers.{codeNumber}
 use Rattle.record.specs.Records.{refusal}
 use Rattle.record.specs.declared.Checked.the-variants.{Refused as Stopped}
@@ -34,14 +34,14 @@ use Rattle.callers.specs.Repeated.{Last, answers, full, repeated}
 
 -- the codes of the reading
 abbrev pub readingCodes : List ℕ
-readingCodes = 1 ∷ 2 ∷ 5 ∷ 6 ∷ 8 ∷ 9 ∷ 10 ∷ []
+readingCodes = 2 ∷ 5 ∷ 6 ∷ 8 ∷ 9 ∷ 10 ∷ 22 ∷ 23 ∷ []
 
 -- the codes of a single call, and of a run
 abbrev pub callCodes : List ℕ
-callCodes = 1 ∷ 2 ∷ 5 ∷ 6 ∷ 8 ∷ 9 ∷ 10 ∷ 11 ∷ 12 ∷ 13 ∷ 15 ∷ []
+callCodes = 2 ∷ 5 ∷ 6 ∷ 8 ∷ 9 ∷ 10 ∷ 11 ∷ 12 ∷ 13 ∷ 15 ∷ 22 ∷ 23 ∷ []
 
 abbrev pub runCodes : List ℕ
-runCodes = 1 ∷ 2 ∷ 5 ∷ 6 ∷ 8 ∷ 9 ∷ 10 ∷ 11 ∷ 12 ∷ 13 ∷ 14 ∷ 15 ∷ []
+runCodes = 2 ∷ 5 ∷ 6 ∷ 8 ∷ 9 ∷ 10 ∷ 11 ∷ 12 ∷ 13 ∷ 14 ∷ 15 ∷ 22 ∷ 23 ∷ []
 
 -- ---- how a tokenizer that a caller has can be done: it runs, or keeps the end or a code of the reading
 abbrev pub DoneBy : Outcome → Type 0
@@ -52,7 +52,7 @@ DoneBy (Refused r) = OneOf readingCodes (r .code)
 -- of a call of the reading
 reads : (cs : List ℕ) (at : ℕ) → SaysIn (λ (t : Token). Unit {0}) (OneOf readingCodes) (next cs at .what)
 unfolding among
-reads cs at = (next-says (λ t. Unit {0}) (OneOf readingCodes) (λ kind o p h. tt) (λ kind o p from to h s. tt) refl refl refl refl refl refl refl (λ o p from to. tt) cs at) .is
+reads cs at = (next-says (λ t. Unit {0}) (OneOf readingCodes) (λ kind o p h. tt) (λ kind o p from to h s. tt) refl refl refl refl refl refl refl refl (λ o p from to. tt) cs at) .is
 
 done-by : (shift : ℕ) (w : What) → SaysIn (λ (t : Token). Unit {0}) (OneOf readingCodes) w → DoneBy (doneBy (shiftWhat shift w))
 done-by shift (Got t) h = tt
@@ -113,7 +113,7 @@ module _ (s : List ℕ) (shift limit : ℕ) (t : Tokenizer) (k : Kept s t) where
       go (limited u l e) h d = rw e refl
       go (read u l e) h d = rw e (shift-said shift (callOf s t .what) (reads (left s (t .at)) (t .at)))
 
-  -- THE THEOREMS, of every tokenizer that a caller has. A single call refuses for one of these: so not for 3, 4, 7, 14, 16 to 20 or above
+  -- THE THEOREMS, of every tokenizer that a caller has. A single call refuses for one of these: so not for 1, 3, 4, 7, 14, 16 to 21 or from 24 on
   pub next-codes : (z : Refusal) (u : Tokenizer) → Nexts s shift limit t (Error z) u → among (codeNumber (z .code)) callCodes ≡ true
   next-codes z u c = let h : Said callCodes (Error z) = rw (← (c .0)) at next-said in h
 
@@ -134,9 +134,10 @@ run-codes s shift limit t before r after k c z e = let d = repeated s shift limi
         let w = run-said (nextToken s shift limit u .what) (r .how) z h e (next-said s shift limit u k′) in
         one-of (λ n. among n runCodes) (codeNumber (z .code)) callCodes refl w
 
--- ---- so 3, 4 and 7 never come out of a call or a run; nor 16 to 20, which are expansion's, the LTK file's and a cursor's off a boundary; nor 21 to 29
+-- ---- so 1 (02, E3: it became 22 and 23), 3, 4 and 7 never come out of a call or a run; nor 16 to 20, which are expansion's, the LTK file's and a cursor's
+-- off a boundary; nor 21, the sheet's, nor 24 to 29
 abbrev pub neverCodes : List ℕ
-neverCodes = 3 ∷ 4 ∷ 7 ∷ 16 ∷ 17 ∷ 18 ∷ 19 ∷ 20 ∷ newCodes
+neverCodes = 1 ∷ 3 ∷ 4 ∷ 7 ∷ 16 ∷ 17 ∷ 18 ∷ 19 ∷ 20 ∷ 21 ∷ 24 ∷ 25 ∷ 26 ∷ 27 ∷ 28 ∷ 29 ∷ []
 
 pub next-never : (s : List ℕ) (shift limit : ℕ) (t : Tokenizer) → Kept s t → (z : Refusal) (u : Tokenizer) → Nexts s shift limit t (Error z) u → among (codeNumber (z .code)) (14 ∷ neverCodes) ≡ false
 unfolding among each

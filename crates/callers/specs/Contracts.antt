@@ -32,7 +32,7 @@ pub data Kept (s : List ℕ) : Tokenizer → Type 0 where
   called : {t u : Tokenizer} {r : What} (shift limit : ℕ) → Kept s t → Nexts s shift limit t r u → Kept s u
   ran : {t : Tokenizer} {r : Ran} (shift limit : ℕ) (before after : List Token) → Kept s t → RunsFrom s shift limit t before r after → Kept s (r .state)
 
--- "an error or the end": an error of the reading, 1 to 10
+-- "an error or the end": an error of the reading, by the Rust's number 1 to 10
 abbrev pub isFinal : Outcome → Bool
 isFinal Running = false
 isFinal Ended = true

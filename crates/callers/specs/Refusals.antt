@@ -43,7 +43,7 @@ module _ (s : List ℕ) (shift limit : ℕ) (t : Tokenizer) (z : Refusal) (refus
   unfolding ranWith wholeRunWith
   refused-run before r after c = (c .0 ∙ rw refused, c .1 ∙ rw refused)
 
--- ---- a call that refuses for anything but 1 to 10 changes nothing
+-- ---- a call that refuses for anything but an error of the reading changes nothing
 no : {A : Type 0} → true ≡ false → A
 no e = let w : _≡_ {A = ℕ} 0 1 = cc in absurd (omega arith)
 

@@ -92,7 +92,7 @@ said-same End (Got y) f e = let w : _≡_ {A = ℕ} 0 1 = cc in absurd (omega ar
 said-same End (Error x) f e = let w : _≡_ {A = ℕ} 0 1 = cc in absurd (omega arith)
 said-same End End f e = refl
 
--- ---- THE THEOREMS. After a call of `run::next` that answered an error (1 to 10) or the end, with any further limit
+-- ---- THE THEOREMS. After a call of `run::next` that answered an error of the reading or the end, with any further limit
 module _ (s : List ℕ) (shift limit : ℕ) (t : Tokenizer) (r : What) (u : Tokenizer) (c : Nexts s shift limit t r u) (f : isFinal (doneBy r) ≡ true) (limit′ : ℕ) where
   kept-next : Stands s shift (doneBy r) u
   kept-next = rw (c .0, c .1) (next-settled s shift limit t (rw (c .0) at f))
@@ -108,7 +108,7 @@ module _ (s : List ℕ) (shift limit : ℕ) (t : Tokenizer) (r : What) (u : Toke
       → (r′ ≡ record { stored = 0; how = doneBy r; advances = u .count; state = u }) × (after ≡ before)
   next-then-run before r′ after d = again-run s shift limit′ (doneBy r) u f kept-next before r′ after d
 
--- After a run that answered an error (1 to 10) or the end
+-- After a run that answered an error of the reading or the end
 module _ (s : List ℕ) (shift limit : ℕ) (t : Tokenizer) (before : List Token) (r : Ran) (after : List Token) (c : RunsFrom s shift limit t before r after) (f : isFinal (r .how) ≡ true)
     (limit′ : ℕ) where
   kept-run : Stands s shift (r .how) (r .state)

@@ -77,7 +77,7 @@ plain-other kind h = go (isString kind) refl
 
 others : (c : ℕ) (cs : List ℕ) (p : ℕ) → eqb c 34 ≡ false → (t : Token) → tokenOrEnd (c ∷ cs) p .what ≡ Got t → isString (t .kind) ≡ false
 others c cs p n t e =
-    let h = first-says (λ (t : Token). isString (t .kind) ≡ false) (λ (c : Code). Unit {0}) (λ kind o p h. plain-other kind h) (λ kind o p from to h s. s) tt tt tt tt tt tt tt p c cs
+    let h = first-says (λ (t : Token). isString (t .kind) ≡ false) (λ (c : Code). Unit {0}) (λ kind o p h. plain-other kind h) (λ kind o p from to h s. s) tt tt tt tt tt tt tt tt p c cs
     (λ q. no (sym q ∙ n)) in
     let w : SaysIn (λ (t : Token). isString (t .kind) ≡ false) (λ (c : Code). Unit {0}) (Got t) = rw e at (h .is) in
     w

@@ -77,7 +77,7 @@ fn fill(page: &mut [u64], row: &mut [u64]) {
 // A sheet beside the sums of the recorded answers.
 fn compare(page: [u64; 96], row: [u64; 96]) {
     let mut joined = page;
-    summed::join_gaps(&mut joined);
+    summed::as_row(&mut joined);
     difference(recorded::numbers_differ(0, &row, &joined));
 }
 

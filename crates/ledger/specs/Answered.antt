@@ -1,4 +1,4 @@
--- WHAT A CALL CAN ANSWER, by a walk of all its readers, once for every question: what holds of the seven refusals that they name, and of the tokens
+-- WHAT A CALL CAN ANSWER, by a walk of all its readers, once for every question: what holds of the eight refusals that they name, and of the tokens
 -- that they make, holds of every answer.
 use Prim.Native.Nat.{_+_, _-_, suc, zero, ℕ}
 use mathlib.Core.Bool.{Bool, cond, false, true}
@@ -13,7 +13,7 @@ use Rattle.record.specs.Codes.{among}
 use Rattle.record.specs.Numbers.{kindNumber}
 use Rattle.record.specs.Records.{refusal, tokenOf}
 use Rattle.record.specs.declared.Code.{Code}
-use Rattle.record.specs.declared.Code.the-variants.{ExpectedStringLiteral, UnrecognizedToken, UnterminatedBlockComment, UnterminatedCharacterLiteral, UnterminatedCode, UnterminatedEscape, UnterminatedStringLiteral}
+use Rattle.record.specs.declared.Code.the-variants.{ExpectedStringLiteral, HalfSymbol, StrayCharacter, UnterminatedBlockComment, UnterminatedCharacterLiteral, UnterminatedCode, UnterminatedEscape, UnterminatedStringLiteral}
 use Rattle.record.specs.declared.Kind.{Kind}
 use Rattle.record.specs.declared.Kind.the-variants.{CharLiteral, EqualsGreaterThanCode, EqualsGreaterThanQuestionCode, Escape, Id, Lifetime, MacroId, RegexLiteral, ShebangAttribute, StringLiteral, Use}
 use Rattle.record.specs.declared.Token.{Token}
@@ -67,12 +67,12 @@ unfolding singles among
 singles-plain = search depth 40
 
 -- what holds of the answers: P of a token, Q of a refusal's code
-abbrev LosesIn : (Code → Type 0) → Skip → Type 0
+abbrev pub LosesIn : (Code → Type 0) → Skip → Type 0
 LosesIn Q (Past p m) = Unit {0}
 LosesIn Q (Lost r p m) = Q (r .code)
 
-record Loses (Q : Code → Type 0) (x : Skip) : Type 0 where
-  is : LosesIn Q x
+pub record Loses (Q : Code → Type 0) (x : Skip) : Type 0 where
+  pub is : LosesIn Q x
 
 abbrev TurnsIn : (Code → Type 0) → Turn → Type 0
 TurnsIn Q Stop = Unit {0}
@@ -93,7 +93,7 @@ pub record Says (P : Token → Type 0) (Q : Code → Type 0) (x : Call) : Type 0
 module _ (P : Token → Type 0) (Q : Code → Type 0)
     (bare : (kind : Kind) (o p : ℕ) → hasPayload kind ≡ false → P (tokenOf kind o p o o))
     (rich : (kind : Kind) (o p from to : ℕ) → hasPayload kind ≡ true → isString kind ≡ false → P (tokenOf kind o p from to))
-    (q1 : Q UnrecognizedToken) (q2 : Q UnterminatedEscape) (q5 : Q UnterminatedStringLiteral) (q6 : Q UnterminatedCharacterLiteral)
+    (q2 : Q UnterminatedEscape) (q5 : Q UnterminatedStringLiteral) (q6 : Q UnterminatedCharacterLiteral)
     (q8 : Q UnterminatedCode) (q9 : Q ExpectedStringLiteral) (q10 : Q UnterminatedBlockComment) where
   -- ---- what a reader answers
   lose-test : (t : Bool) (x y : Skip) → Loses Q x → Loses Q y → Loses Q (cond t x y)
@@ -221,7 +221,7 @@ module _ (P : Token → Type 0) (Q : Code → Type 0)
   unfolding gapTurn
   gap-turn-loses b c cs at next = search (turn-loses, comment-loses)
 
-  gap-loses : (cs : List ℕ) (at : ℕ) → Loses Q (gap cs at)
+  pub gap-loses : (cs : List ℕ) (at : ℕ) → Loses Q (gap cs at)
   unfolding gap
   gap-loses cs at = lose-from gapTurn gapLast gap-turn-loses (λ b p n. lose-past p n) 0 cs 0 at 0
 
@@ -254,15 +254,7 @@ module _ (P : Token → Type 0) (Q : Code → Type 0)
   unfolding more
   says-more n x h = record { is = h .is }
 
-  says-half : (o at : ℕ) → Says P Q (half o at)
-  unfolding half
-  says-half o at = says-refuse _ o at 0 q1
-
-  says-stray : (o : ℕ) → Says P Q (stray o)
-  unfolding stray
-  says-stray o = says-refuse _ o o 0 q1
-
-  ruleset says = (says-test, says-next, says-deliver, says-plain, says-more, says-half, says-stray)
+  ruleset says = (says-test, says-next, says-deliver, says-plain, says-more)
 
   module _ (o : ℕ) (cs : List ℕ) (at : ℕ) where
     bang-says : Says P Q (bang o cs at)
@@ -273,31 +265,11 @@ module _ (P : Token → Type 0) (Q : Code → Type 0)
     unfolding among colon
     colon-says = search says
 
-    dot-says : Says P Q (dot o cs at)
-    unfolding among dot
-    dot-says = search says
-
-    look-says : Says P Q (look o cs at)
-    unfolding among look
-    look-says = search says
-
-    tilde-says : Says P Q (tilde o cs at)
-    unfolding among tilde
-    tilde-says = search says
-
-    minus-says : Says P Q (minus o cs at)
-    unfolding among minus
-    minus-says = search says
-
-    arrow-look-says : Says P Q (arrowLook o cs at)
-    unfolding among arrowLook
-    arrow-look-says = search says
-
     code-token-says : (kind : Kind) (x : Skip) → hasPayload kind ≡ true → isString kind ≡ false → Loses Q x → Says P Q (codeToken kind o at x)
     code-token-says kind (Past p m) k s h = says-deliver kind o at p p m k s
     code-token-says kind (Lost r p m) k s h = record { is = h .is }
 
-    arrow-code-says : (kind : Kind) → hasPayload kind ≡ true → isString kind ≡ false → Says P Q (arrowCode kind o cs at)
+    pub arrow-code-says : (kind : Kind) → hasPayload kind ≡ true → isString kind ≡ false → Says P Q (arrowCode kind o cs at)
     unfolding arrowCode
     arrow-code-says kind k s = code-token-says kind _ k s (code-loses o cs at)
 
@@ -322,7 +294,7 @@ module _ (P : Token → Type 0) (Q : Code → Type 0)
     quoted-says kind code (At p m) k s e = says-deliver kind o at p (p + 1) (m + 1) k s
     quoted-says kind code (Nothing p m) k s e = says-refuse code o p m e
 
-    escape-says : Says P Q (escape o cs at)
+    pub escape-says : Says P Q (escape o cs at)
     unfolding among escape
     escape-says = quoted-says _ _ (seek Backtick cs at) refl refl q2
 
@@ -344,21 +316,12 @@ module _ (P : Token → Type 0) (Q : Code → Type 0)
         go (Nothing p m) = says-refuse _ o p m q5
 
   module _ (o : ℕ) where
-    arrow-says : (cs : List ℕ) (at : ℕ) → Says P Q (rightArrow o cs at)
-    unfolding among rightArrow
-    arrow-says [] at = says-refuse _ o at 0 q8
-    arrow-says (c ∷ cs) at = search (says, arrow-look-says, arrow-code-says)
-
-    equals-says : (cs : List ℕ) (at : ℕ) → Says P Q (equals o cs at)
-    unfolding among equals
-    equals-says cs at = search (says, arrow-says)
-
-    lifetimeish-says : (cs : List ℕ) (at : ℕ) → Says P Q (lifetimeish o cs at)
+    pub lifetimeish-says : (cs : List ℕ) (at : ℕ) → Says P Q (lifetimeish o cs at)
     unfolding lifetimeish
     lifetimeish-says [] at = says-refuse _ o at 0 q6
     lifetimeish-says (c ∷ cs) at = says-test (isIdentifierStart c) _ _ (lifetime-says o (c ∷ cs) at (seek Word (c ∷ cs) at)) (char-says o (c ∷ cs) at)
 
-    identifier-says : (front cs : List ℕ) (at : ℕ) → Says P Q (identifierish front o cs at)
+    pub identifier-says : (front cs : List ℕ) (at : ℕ) → Says P Q (identifierish front o cs at)
     unfolding identifierish
     identifier-says front cs at = go (seek Word cs at)
       where
@@ -381,12 +344,12 @@ module _ (P : Token → Type 0) (Q : Code → Type 0)
         go (At p m) = says-more m _ (hashed-says front m (drop m cs) p)
         go (Nothing p m) = says-refuse _ o p m q5
 
-    r-says : (front cs : List ℕ) (at : ℕ) → Says P Q (rWord front o cs at)
+    pub r-says : (front cs : List ℕ) (at : ℕ) → Says P Q (rWord front o cs at)
     unfolding rWord
     r-says front cs at = search (says-next, regex-literal-says, identifier-says)
 
     -- codes of a failed attempt never show
-    hash-says : (cs : List ℕ) (at : ℕ) → Says P Q (hash o cs at)
+    pub hash-says : (cs : List ℕ) (at : ℕ) → Says P Q (hash o cs at)
     unfolding among hash attributeToken
     hash-says cs at = go (attempt cs at)
       where
@@ -399,26 +362,8 @@ module _ (P : Token → Type 0) (Q : Code → Type 0)
     single-says [] c at x a h = h
     single-says (k ∷ ks) c at x a h = says-test (eqb c (k .0)) _ _ (says-plain (k .1) o at 1 (a .0)) (single-says ks c at x (a .1) h)
 
-    -- a string starts with its quote, and nothing else does
-    starts-says : (c : ℕ) (cs : List ℕ) (at : ℕ) → (eqb c 34 ≡ true → Says P Q (stringLiteral o cs at)) → Says P Q (starts c cs o at)
-    unfolding starts
-    starts-says c cs at s = go (eqb c 34) refl
-      where
-        go : (b : Bool) → eqb c 34 ≡ b → Says P Q (starts c cs o at)
-        go true q = rw (eqb-true c 34 q) (says-more 1 _ (s q))
-        go false q =
-            rw q
-            (search (says-other, says-test, says-more, bang-says, colon-says, dot-says, equals-says, look-says, tilde-says, escape-says, lifetimeish-says, says-half, minus-says, r-says, identifier-says, says-stray) depth 18)
-
-    -- by its first character
-    pub first-says : (c : ℕ) (cs : List ℕ) → (eqb c 34 ≡ true → Says P Q (stringLiteral o cs (o + widthOf c))) → Says P Q (tokenOrEnd (c ∷ cs) o)
-    unfolding tokenOrEnd token
-    first-says c cs s =
-        says-test (eqb c 35) _ _ (says-more 1 _ (hash-says cs (o + widthOf c)))
-        (single-says singles c (o + widthOf c) _ singles-plain (starts-says c cs (o + widthOf c) s))
-
   module _ (strings : (o p from to : ℕ) → P (tokenOf StringLiteral o p from to)) where
-    string-says : (o : ℕ) (cs : List ℕ) (at : ℕ) → Says P Q (stringLiteral o cs at)
+    pub string-says : (o : ℕ) (cs : List ℕ) (at : ℕ) → Says P Q (stringLiteral o cs at)
     unfolding stringLiteral deliver
     string-says o cs at = go (stringEnd 34 cs at)
       where
@@ -426,16 +371,78 @@ module _ (P : Token → Type 0) (Q : Code → Type 0)
         go (At p m) = record { is = strings o (p + 1) at p }
         go (Nothing p m) = says-refuse _ o p m q5
 
-    token-says : (o : ℕ) (cs : List ℕ) → Says P Q (tokenOrEnd cs o)
-    unfolding tokenOrEnd
-    token-says o [] = record { is = tt }
-    token-says o (c ∷ cs) = first-says o c cs (λ e. string-says o cs (o + widthOf c))
+  -- ---- the two kinds of unknown, and what may answer them
+  module _ (q22 : Q HalfSymbol) (q23 : Q StrayCharacter) where
+    says-half : (o at : ℕ) → Says P Q (half o at)
+    unfolding half
+    says-half o at = says-refuse _ o at 0 q22
 
-    -- THE LAW, of every call
-    pub next-says : (cs : List ℕ) (at : ℕ) → Says P Q (next cs at)
-    unfolding next
-    next-says cs at = go (gap cs at) (gap-loses cs at)
-      where
-        go : (x : Skip) → Loses Q x → Says P Q (nextBy cs x)
-        go (Past p m) h = says-more m _ (token-says p (drop m cs))
-        go (Lost r p m) h = record { is = h .is }
+    says-stray : (o : ℕ) → Says P Q (stray o)
+    unfolding stray
+    says-stray o = says-refuse _ o o 0 q23
+
+    ruleset halves = (says, says-half)
+
+    module _ (o : ℕ) (cs : List ℕ) (at : ℕ) where
+      dot-says : Says P Q (dot o cs at)
+      unfolding among dot
+      dot-says = search halves
+
+      look-says : Says P Q (look o cs at)
+      unfolding among look
+      look-says = search halves
+
+      tilde-says : Says P Q (tilde o cs at)
+      unfolding among tilde
+      tilde-says = search halves
+
+      minus-says : Says P Q (minus o cs at)
+      unfolding among minus
+      minus-says = search halves
+
+      arrow-look-says : Says P Q (arrowLook o cs at)
+      unfolding among arrowLook
+      arrow-look-says = search halves
+
+    module _ (o : ℕ) where
+      arrow-says : (cs : List ℕ) (at : ℕ) → Says P Q (rightArrow o cs at)
+      unfolding among rightArrow
+      arrow-says [] at = says-refuse _ o at 0 q8
+      arrow-says (c ∷ cs) at = search (says, arrow-look-says, arrow-code-says)
+
+      equals-says : (cs : List ℕ) (at : ℕ) → Says P Q (equals o cs at)
+      unfolding among equals
+      equals-says cs at = search (says, arrow-says)
+
+      -- a string starts with its quote, and nothing else does
+      starts-says : (c : ℕ) (cs : List ℕ) (at : ℕ) → (eqb c 34 ≡ true → Says P Q (stringLiteral o cs at)) → Says P Q (starts c cs o at)
+      unfolding starts
+      starts-says c cs at s = go (eqb c 34) refl
+        where
+          go : (b : Bool) → eqb c 34 ≡ b → Says P Q (starts c cs o at)
+          go true q = rw (eqb-true c 34 q) (says-more 1 _ (s q))
+          go false q =
+              rw q
+              (search (says-other, says-test, says-more, bang-says, colon-says, dot-says, equals-says, look-says, tilde-says, escape-says, lifetimeish-says, says-half, minus-says, r-says, identifier-says, says-stray) depth 18)
+
+      -- by its first character
+      pub first-says : (c : ℕ) (cs : List ℕ) → (eqb c 34 ≡ true → Says P Q (stringLiteral o cs (o + widthOf c))) → Says P Q (tokenOrEnd (c ∷ cs) o)
+      unfolding tokenOrEnd token
+      first-says c cs s =
+          says-test (eqb c 35) _ _ (says-more 1 _ (hash-says o cs (o + widthOf c)))
+          (single-says o singles c (o + widthOf c) _ singles-plain (starts-says c cs (o + widthOf c) s))
+
+    module _ (strings : (o p from to : ℕ) → P (tokenOf StringLiteral o p from to)) where
+      token-says : (o : ℕ) (cs : List ℕ) → Says P Q (tokenOrEnd cs o)
+      unfolding tokenOrEnd
+      token-says o [] = record { is = tt }
+      token-says o (c ∷ cs) = first-says o c cs (λ e. string-says strings o cs (o + widthOf c))
+
+      -- THE LAW, of every call
+      pub next-says : (cs : List ℕ) (at : ℕ) → Says P Q (next cs at)
+      unfolding next
+      next-says cs at = go (gap cs at) (gap-loses cs at)
+        where
+          go : (x : Skip) → Loses Q x → Says P Q (nextBy cs x)
+          go (Past p m) h = says-more m _ (token-says p (drop m cs))
+          go (Lost r p m) h = record { is = h .is }

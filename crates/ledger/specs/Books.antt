@@ -119,7 +119,7 @@ module _ (s : List ℕ) (shift limit : ℕ) (before : List Token) (r : Ran) (aft
   advances-bound = rw reported (bound-law s shift limit (length before))
 
   -- 4. In every run the count is what its calls pass by the definition: one call for each record that it stored, and the final call where that
-  -- answered the end or an error (1 to 10).
+  -- answered the end or an error of the reading.
   pub no-invention : r .advances ≡ spent s (r .stored + finalCall (r .how)) 0
   no-invention = rw reported (spent-law s shift limit (length before))
 

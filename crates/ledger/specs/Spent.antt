@@ -27,7 +27,7 @@ spent s zero at = 0
 spent s (suc n) at = next (left s at) at .advances + spent s n (next (left s at) at .at)
 
 -- 01: "14 and 15 leave the tokenizer as before that call, with the count through the last delivered answer; any other answer's count includes
--- the final call. 11 to 13 report count 0." The final call counts where it answered the end or an error of the reading, 1 to 10.
+-- the final call. 11 to 13 report count 0." The final call counts where it answered the end or an error of the reading.
 abbrev pub finalCall : Outcome → ℕ
 finalCall Running = 0
 finalCall Ended = 1

@@ -56,8 +56,8 @@ pub run-told : runCall (59 ∷ []) 7 9 (6 ∷ 6 ∷ 6 ∷ 6 ∷ 6 ∷ 6 ∷ []) 
 unfolding runCall tell numbersAll wholeRunWith ranWith checks reach runWith runFromWith stepWith next gap gapTurn commentTurn tokenOrEnd token starts single singles half stray bang colon dot look tilde minus arrowLook arrowCode rightArrow equals attributeTurn attemptBody attemptBracket attempt dropped attributeToken hash regexToken hashed regexLiteral rWord spells keywords useToken idToken keywordToken wordToken identifierish escape stringLiteral charLiteral lifetimeish slashSkip quoteEnd oneSkip escSkip quoteSkip bodySkip rSkip opens closes codeTurn walkFrom deliver plain refuse more ifNext until after chars charsFrom sight lead low high widthOf startRanges continueRanges holds inRanges
 run-told = refl
 
--- `.` with shift 7: refused by 1 at 7, no record, one advance
-pub refused-told : runCall (46 ∷ []) 7 9 (6 ∷ 6 ∷ []) (9 ∷ 9 ∷ 9 ∷ 9 ∷ []) ≡ left 1 (6 ∷ 6 ∷ []) (1 ∷ 7 ∷ 0 ∷ 1 ∷ [])
+-- `.` with shift 7: refused by 22 at 7, no record, one advance
+pub refused-told : runCall (46 ∷ []) 7 9 (6 ∷ 6 ∷ []) (9 ∷ 9 ∷ 9 ∷ 9 ∷ []) ≡ left 22 (6 ∷ 6 ∷ []) (22 ∷ 7 ∷ 0 ∷ 1 ∷ [])
 unfolding runCall tell numbersAll wholeRunWith ranWith checks reach runWith runFromWith stepWith next gap gapTurn commentTurn tokenOrEnd token starts single singles half stray bang colon dot look tilde minus arrowLook arrowCode rightArrow equals attributeTurn attemptBody attemptBracket attempt dropped attributeToken hash regexToken hashed regexLiteral rWord spells keywords useToken idToken keywordToken wordToken identifierish escape stringLiteral charLiteral lifetimeish slashSkip quoteEnd oneSkip escSkip quoteSkip bodySkip rSkip opens closes codeTurn walkFrom deliver plain refuse more ifNext until after chars charsFrom sight lead low high widthOf startRanges continueRanges holds inRanges
 refused-told = refl
 

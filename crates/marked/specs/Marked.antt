@@ -9,7 +9,7 @@ use Rattle.unicode.specs.Tables.{continueRanges, startRanges}
 use Rattle.record.specs.Checks.{checks}
 use Rattle.record.specs.Records.{refusal, tokenOf}
 use Rattle.record.specs.declared.Code.{Code}
-use Rattle.record.specs.declared.Code.the-variants.{ExpectedStringLiteral, NoRoom, UnrecognizedToken, UnterminatedBlockComment, UnterminatedCharacterLiteral, UnterminatedStringLiteral, WorkLimit}
+use Rattle.record.specs.declared.Code.the-variants.{ExpectedStringLiteral, HalfSymbol, NoRoom, UnterminatedBlockComment, UnterminatedCharacterLiteral, UnterminatedStringLiteral, WorkLimit}
 use Rattle.record.specs.declared.Kind.{Kind}
 use Rattle.record.specs.declared.Kind.the-variants.{Bang, CharLiteral, EqualsGreaterThanCode, EqualsGreaterThanQuestionCode, Hash, Id, In, LeftBracket, LessThan, MacroId, RegexLiteral, Semi, ShebangAttribute, Underscore}
 use Rattle.record.specs.declared.Token.{Token}
@@ -123,8 +123,8 @@ unfoldable pub further : List ((ℕ × ℕ × ℕ) × List ℕ × Row)
 further =
     -- two quotes
     ((0, 99, 99), 'quote ∷ 'quote ∷ [], row (tokenOf CharLiteral 0 2 1 1 ∷ []) Ended 2)
-    -- a dot, with shift 7
-    ∷ ((7, 99, 99), 'dot ∷ [], row [] (at UnrecognizedToken 7) 1)
+    -- a dot, with shift 7 (02, E3: half a symbol, 22 and no longer 1)
+    ∷ ((7, 99, 99), 'dot ∷ [], row [] (at HalfSymbol 7) 1)
     -- the listing: #![a]xb=>c;
     ∷ (
       (0, 99, 99),

@@ -79,6 +79,16 @@ pub(crate) fn run_only() {
     whole(b"#![a]xb=>c;");
 }
 
+// Half a symbol, and a character that starts nothing (02, E3).
+pub(crate) fn unknown() {
+    whole(b"~");
+    whole(b"a->-");
+    whole(b"/");
+    whole(b"@x");
+    whole(b"=>@x");
+    whole(b"\xe2\x82\xac");
+}
+
 // What stops a run besides the text: the work limit, the room, the shift; and ill-formed UTF-8.
 pub(crate) fn limits() {
     example(b"a, limit 0", b"a", 0, 0);

@@ -6,7 +6,7 @@ use lib.Dec.{eqb}
 use lib.ListN.{drop}
 use Rattle.utf8.specs.Chars.{'&, '*, '+, ':, '<, '=, '>, '?, 'L, 'R, '[, '], 'at, 'brace, 'comma, 'dot, 'paren, 'semi, 'unbrace, 'unparen, '~}
 use Rattle.utf8.specs.Utf8.{widthOf}
-use Rattle.record.specs.declared.Code.the-variants.{UnrecognizedToken, UnterminatedCode}
+use Rattle.record.specs.declared.Code.the-variants.{HalfSymbol, StrayCharacter, UnterminatedCode}
 use Rattle.record.specs.declared.Kind.{Kind}
 use Rattle.record.specs.declared.Kind.the-variants.{Ampersand, Bang, BangEquals, BangTilde, Colon, ColonColon, Comma, DotDot, Equals, EqualsEquals, EqualsGreaterThanCode, EqualsGreaterThanLookahead, EqualsGreaterThanLookbehind, EqualsGreaterThanQuestionCode, GreaterThan, LeftBrace, LeftBracket, LeftParen, LessThan, Lookahead, Lookbehind, MinusGreaterThan, Plus, Question, RightBrace, RightBracket, RightParen, Semi, Star, TildeTilde}
 use Rattle.scan.specs.IfNext.{ifNext}
@@ -25,13 +25,13 @@ unfoldable pub single : List (ℕ × Kind) → ℕ → ℕ → ℕ → Call → 
 single [] c o next other = other
 single (k ∷ ks) c o next other = cond (eqb c (k .0)) (plain (k .1) o next 1) (single ks c o next other)
 
--- 01: "Lone `.`, `~`, `-`, `/`, `@` are `UnrecognizedToken` at that character."
--- half a symbol, and a character that starts nothing: both are refused at their first character
+-- 01: "Lone `.`, `~`, `-`, `/`, `@` are `UnrecognizedToken` at that character." 02, E3: "Split it: half a symbol (`.`, `~`, `-`, `/`, `@`, or `=>@` without
+-- L or R) against a character that starts nothing. The place stays." (01's own answer stands in unknown/specs/Rust.)
 unfoldable pub half : ℕ → ℕ → Call
-half o at = refuse UnrecognizedToken o at 0
+half o at = refuse HalfSymbol o at 0
 
 unfoldable pub stray : ℕ → Call
-stray o = refuse UnrecognizedToken o o 0
+stray o = refuse StrayCharacter o o 0
 
 unfoldable pub bang : ℕ → List ℕ → ℕ → Call
 bang o cs at = ifNext '= cs (plain BangEquals o (at + 1) 1) (ifNext '~ cs (plain BangTilde o (at + 1) 1) (plain Bang o at 0))
@@ -51,7 +51,7 @@ tilde o cs at = ifNext '~ cs (plain TildeTilde o (at + 1) 1) (half o at)
 unfoldable pub minus : ℕ → List ℕ → ℕ → Call
 minus o cs at = ifNext '> cs (plain MinusGreaterThan o (at + 1) 1) (half o at)
 
--- after =>@. 01: "`=>@L` and `=>@R` are tokens, `=>@` otherwise is 1 at its `=`."
+-- after =>@. 01: "`=>@L` and `=>@R` are tokens, `=>@` otherwise is 1 at its `=`." By 02, E3 it is 22 there.
 unfoldable pub arrowLook : ℕ → List ℕ → ℕ → Call
 arrowLook o cs at =
     ifNext 'L cs (plain EqualsGreaterThanLookahead o (at + 1) 1) (ifNext 'R cs (plain EqualsGreaterThanLookbehind o (at + 1) 1) (half o at))

@@ -27,7 +27,7 @@ among n (m ∷ ms) = eqb n m || among n ms
 abbrev pub OneOf : List ℕ → Code → Type 0
 OneOf ns c = among (codeNumber c) ns ≡ true
 
--- 02's nine numbers: the sheet answers 21 (02, E2), no part another of them yet
+-- 02's nine numbers: the sheet answers 21 (02, E2), the reading 22 and 23 (02, E3), no part another of them yet
 abbrev pub newCodes : List ℕ
 newCodes = 21 ∷ 22 ∷ 23 ∷ 24 ∷ 25 ∷ 26 ∷ 27 ∷ 28 ∷ 29 ∷ []
 
@@ -45,7 +45,7 @@ one-of test n (m ∷ ns) h e = let b = both (test m) (each test ns) h in go (eqb
     go true q p f = rw (eqb-true n m q) p
     go false q p f = f (rw q at e)
 
-not-true : (b : Bool) → not b ≡ true → b ≡ false
+pub not-true : (b : Bool) → not b ≡ true → b ≡ false
 not-true true e = sym e
 not-true false e = refl
 

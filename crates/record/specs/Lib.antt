@@ -2,6 +2,7 @@
 pub mod Numbers
 pub mod Records
 pub mod Checks
+pub mod Rust
 -- the laws that lead there, and those that the code cites
 pub mod Allowed
 pub mod Codes

@@ -4,6 +4,7 @@ ghost use mathlib.Core.Path.{_≡_};
 ghost use Rattle.record.specs.Numbers.{kindNumber, codeNumber, kindOf};
 ghost use Rattle.record.specs.Records.{tokenOf};
 ghost use Rattle.record.specs.Checks.{checks};
+ghost use Rattle.record.specs.Rust.{rustNumber};
 
 // The kinds of token, in the order of the Rust's `Tok`.
 pub enum Kind {
@@ -85,7 +86,7 @@ pub enum Code {
     UnknownVersion,
     BadLength,
     BadRecord,
-    // 21 to 29: what document 02's requests will answer, and nothing answers yet
+    // 21 to 29 are document 02's; nothing answers those from 24 on yet
     SheetFull,
     HalfSymbol,
     StrayCharacter,
@@ -159,6 +160,16 @@ pub fn code_number(c: Code) -> u8
         Code::BadEdit => 28,
         Code::StaleRecords => 29,
     }
+}
+
+// The number that the Rust has for a refusal's: its one code became two.
+pub fn rust_number(n: u8) -> u8
+    ensures { λ r. ⌜ r ≡ rustNumber n ⌝ }
+{
+    if (n == 22) | (n == 23) {
+        return 1;
+    }
+    n
 }
 
 // A kind's number.

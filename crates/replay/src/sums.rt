@@ -17,7 +17,7 @@ pub(crate) fn empty_row() -> [u64; 96]
 
 // Whether a sheet holds what its row does; a difference is said, where it is to be.
 pub(crate) fn compare(said: bool, page: &mut [u64], row: &[u64]) -> bool {
-    summed::join_gaps(page);
+    summed::as_row(page);
     let d = recorded::numbers_differ(0, row, page);
     match d {
         Difference::Same => true,

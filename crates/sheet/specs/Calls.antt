@@ -1,10 +1,10 @@
 -- The calls of a text, one after another, are those of its run; and what they enter is what its tokens do.
 use Prim.Native.Nat.{_*_, _+_, _-_, _<_, _≤_, suc, zero, ℕ}
 use native.Mathlib.Omega.{arith}
-use mathlib.Core.Bool.{Bool, _||_, cond, false, true}
-use mathlib.Core.List.{List}
+use mathlib.Core.Bool.{Bool, cond, false, true}
+use mathlib.Core.List.{List, [], _∷_}
 use mathlib.Core.Path.{_∙_, _≡_, ap, refl, sym}
-use lib.Dec.{eqb, ltb}
+use lib.Dec.{ltb}
 use lib.ListN.{drop, length, take}
 use lib.Seq.{length-take-le, take-length}
 use borrow.Author.Tests.{le-ltb, lt-ltb, ltb-false}
@@ -12,6 +12,7 @@ use Rattle.utf8.specs.Laws.{bounded, valid-whole}
 use Rattle.utf8.specs.Utf8.{boundary}
 use Rattle.record.specs.Allowed.{allowed}
 use Rattle.record.specs.Checks.{checks}
+use Rattle.record.specs.Codes.{among}
 use Rattle.record.specs.Numbers.{codeNumber, kindNumber}
 use Rattle.record.specs.Records.{refusal}
 use Rattle.record.specs.declared.Checked.the-variants.{Passed}
@@ -42,7 +43,7 @@ use Rattle.reading.specs.declared.What.{What}
 use Rattle.reading.specs.declared.What.the-variants.{End, Error, Got}
 use Rattle.run.specs.Checked.{wholeRunWith}
 use Rattle.run.specs.Pending.{running}
-use Rattle.ledger.specs.Codes.{isError, next-errs}
+use Rattle.ledger.specs.Answered.{SaysIn, next-says}
 use Rattle.sheet.specs.Adds.{between, beyond, droppedAfter, drops, emptySheet, enter, entered, failedIn, fails, gapEntered, inComments, inTokens, inWhitespace, sheetSize, story, tokenEntered, workLimit}
 use Rattle.sheet.specs.Apart.{apart, apartBy, comments, whites}
 use Rattle.sheet.specs.Laws.{Below, below-more, empty-below, empty-length, enter-below, enter-length, fails-le, span-length, up-to-far, whites-comments}
@@ -235,9 +236,13 @@ going-start s e =
       size = empty-length;
     }
 
--- the errors that are tallied: those of the reading, 1 to 10, and 15
+-- the errors that are tallied: those of the reading, and 15
 abbrev pub isTallied : Code → Bool
-isTallied c = isError c || eqb (codeNumber c) 15
+isTallied c = among (codeNumber c) (2 ∷ 5 ∷ 6 ∷ 8 ∷ 9 ∷ 10 ∷ 15 ∷ 22 ∷ 23 ∷ [])
+
+limit-tallied : isTallied WorkLimit ≡ true
+unfolding among
+limit-tallied = refl
 
 abbrev pub TalliedIn : Outcome → Type 0
 TalliedIn Ended = Unit {0}
@@ -245,7 +250,11 @@ TalliedIn (Refused z) = isTallied (z .code) ≡ true
 TalliedIn Running = Unit {0}
 
 error-tallied : (cs : List ℕ) (at : ℕ) (r : Refusal) → next cs at .what ≡ Error r → isTallied (r .code) ≡ true
-error-tallied cs at r e = let h : isError (r .code) ≡ true = rw e at (next-errs cs at .is) in rw h
+unfolding among
+error-tallied cs at r e =
+    let h = next-says (λ (t : Token). Unit {0}) (λ (c : Code). isTallied c ≡ true) (λ kind o p h. tt) (λ kind o p from to h s. tt) refl refl refl refl refl refl refl refl (λ o p from to. tt) cs at in
+    let w : SaysIn (λ (t : Token). Unit {0}) (λ (c : Code). isTallied c ≡ true) (Error r) = rw e at (h .is) in
+    w
 
 -- ---- a turn
 module _ (s : List ℕ) (at count : ℕ) (row : List ℕ) (g : Going s at count row) where
@@ -394,7 +403,7 @@ module _ (s : List ℕ) (at count : ℕ) (row : List ℕ) (g : Going s at count 
       what q End e = let h = call-end s at count q e in rw h (λ z. no z, λ _. over-end _ h (ltb-false workLimit (count + x .advances) q))
 
       by : (b : Bool) → ltb workLimit (count + x .advances) ≡ b → Onwards (readOf s at count) (rowOf s at count row)
-      by true q = let h = call-limit s at count q in rw h (λ z. no z, λ _. over-error (refusal WorkLimit at) _ h (g .spent) refl)
+      by true q = let h = call-limit s at count q in rw h (λ z. no z, λ _. over-error (refusal WorkLimit at) _ h (g .spent) limit-tallied)
       by false q = what q (x .what) refl
 
 -- ---- a call as the code takes it: its gap, and then the token, the error or the end, y, at p

@@ -1,4 +1,4 @@
--- WHICH CODES COME OUT of a sheet: 11, 12, 14, 20 and 21 where a text is refused; 1 to 10 and 15 are tallied (`text-tallied`, Theorems).
+-- WHICH CODES COME OUT of a sheet: 11, 12, 14, 20 and 21 where a text is refused; 2, 5, 6, 8, 9, 10, 15, 22 and 23 are tallied (`text-tallied`, Theorems).
 use Prim.Native.Nat.{ℕ}
 use native.Mathlib.Omega.{arith}
 use mathlib.Core.Bool.{Bool, false, true}

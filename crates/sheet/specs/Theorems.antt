@@ -159,7 +159,7 @@ module _ (s : List ℕ) where
   finishes : checks s 0 ≡ Passed → Finishes
   finishes p = finish (suc (length s)) 0 0 emptySheet (going-start s p) (omega arith)
 
-  -- "A text that ends in an error, 15 included": 1 to 10 and 15 are tallied, and no other code; there is always room
+  -- "A text that ends in an error, 15 included": 2, 5, 6, 8, 9, 10, 22, 23 and 15 are tallied, and no other code; there is always room
   pub text-tallied : checks s 0 ≡ Passed → (z : Refusal) → story s .how ≡ Failed z → isTallied (z .code) ≡ true
   text-tallied p z e = rw e at (finishes p .tallied)
 

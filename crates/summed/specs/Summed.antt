@@ -113,6 +113,10 @@ isRefused code = leb 11 code && leb code 13
 unfoldable pub recordedOnto : List ℕ → List ℕ → List ℕ → List ℕ
 recordedOnto s recorded row = cond (isRefused (getD recorded codeAt 0)) row (more textsTaken 1 (answerOnto s recorded row))
 
--- a sheet laid out as a row: its whitespace and its comments count together
-unfoldable pub joined : List ℕ → List ℕ
-joined sheet = set (more inGaps (getD sheet inComments 0) sheet) inComments 0
+-- number i of a sheet counts with another
+unfoldable pub joined : ℕ → ℕ → List ℕ → List ℕ
+joined i onto sheet = set (more onto (getD sheet i 0) sheet) i 0
+
+-- a sheet laid out as a row: its whitespace and its comments count together; so do 22 and 23, as the Rust's 1 (02, E3: "the finer two mapped back to 1")
+unfoldable pub asRow : List ℕ → List ℕ
+asRow sheet = joined (tallies + 23) (tallies + 1) (joined (tallies + 22) (tallies + 1) (joined inComments inGaps sheet))

@@ -4,7 +4,7 @@ use recorded::rest;
 ghost use Prim.Native.Nat.{_+_, _-_, _≤_};
 ghost use mathlib.Core.Path.{_≡_};
 ghost use lib.ListN.{length, set};
-ghost use Rattle.summed.specs.Summed.{answerOnto, between, dropped, endedOnto, failed, fewer, joined, more, recordedOnto, tallies, tokenOnto, tokensOnto};
+ghost use Rattle.summed.specs.Summed.{answerOnto, asRow, between, dropped, endedOnto, failed, fewer, joined, more, recordedOnto, tallies, tokenOnto, tokensOnto};
 
 // The numbers of a row.
 const IN_TOKENS: usize = 54;
@@ -22,6 +22,13 @@ const FAILED_IN: usize = 59;
 const TEXTS_TAKEN: usize = 60;
 
 const TALLIES: usize = 64;
+
+// The tallies of the Rust's one code for what is unknown, and of the two that it became.
+const UNRECOGNIZED_TOKEN: usize = 65;
+
+const HALF_SYMBOL: usize = 86;
+
+const STRAY_CHARACTER: usize = 87;
 
 // The kinds that add more than themselves.
 const HASH: u64 = 34;
@@ -192,10 +199,19 @@ pub fn recorded_onto(text: &[u8], recorded: &[u64], row: &mut [u64])
     more(row, TEXTS_TAKEN, 1);
 }
 
-// A sheet laid out as a row: whitespace and comments together. It is held against a row by `recorded::numbers_differ`.
-pub fn join_gaps(sheet: &mut [u64])
-    ensures { λ _. ⌜ now (sheet .exit) ≡ joined (now (sheet .entry)) ⌝ }
+// What a number of a sheet holds is held by another.
+fn join(sheet: &mut [u64], i: usize, onto: usize)
+    ensures { λ _. ⌜ now (sheet .exit) ≡ joined i onto (now (sheet .entry)) ⌝ }
 {
-    more(sheet, IN_GAPS, get(sheet, IN_COMMENTS));
-    clear(sheet, IN_COMMENTS);
+    more(sheet, onto, get(sheet, i));
+    clear(sheet, i);
+}
+
+// A sheet laid out as a row: whitespace and comments together, and what the Rust has one code for. It is held against a row by `recorded::numbers_differ`.
+pub fn as_row(sheet: &mut [u64])
+    ensures { λ _. ⌜ now (sheet .exit) ≡ asRow (now (sheet .entry)) ⌝ }
+{
+    join(sheet, IN_COMMENTS, IN_GAPS);
+    join(sheet, HALF_SYMBOL, UNRECOGNIZED_TOKEN);
+    join(sheet, STRAY_CHARACTER, UNRECOGNIZED_TOKEN);
 }

@@ -16,14 +16,14 @@ ghost use Rattle.reading.specs.Symbols.{half, stray, bang, colon, dot, look, ti
 pub fn half(o: usize, at: usize) -> Call
     ensures { λ r. ⌜ r ≡ half o at ⌝ }
 {
-    reading::refuse(Code::UnrecognizedToken, o, at, 0)
+    reading::refuse(Code::HalfSymbol, o, at, 0)
 }
 
 // A character that starts nothing: refused at its place, and not passed.
 pub fn stray(o: usize) -> Call
     ensures { λ r. ⌜ r ≡ stray o ⌝ }
 {
-    reading::refuse(Code::UnrecognizedToken, o, o, 0)
+    reading::refuse(Code::StrayCharacter, o, o, 0)
 }
 
 // A second character k makes the longer symbol; without it the answer is the other one.

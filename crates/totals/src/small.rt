@@ -1,4 +1,4 @@
-// Fifteen texts: what each adds to an empty sheet, by index, and then their sum.
+// Sixteen texts: what each adds to an empty sheet, by index, and then their sum.
 use crate::say::numbers;
 use crate::say::say;
 use crate::say::taken;
@@ -44,11 +44,12 @@ fn errors(sum: &mut [u64]) {
     adds(b"\"a", sum);
     adds(b"r#\"a", sum);
     adds(b"a .", sum);
+    adds(b"a $", sum);
     adds(b"a => {", sum);
     adds(b"a /* b", sum);
 }
 
-pub(crate) fn fifteen() {
+pub(crate) fn sixteen() {
     let mut sum = empty_row();
     plain(&mut sum);
     sharp(&mut sum);

@@ -33,7 +33,7 @@ returns : tie.Need-returns Inv-loop μ-loop
 returns c = called-differs _ _ _ _ _ _ (c .before .before .before .before .before .before .before .before .loop .inv) (c .before .before .before .before .before .before .before .loop-test .taken) (c .before .before .before .before .before .before .next-lent .ensures) _ _ (c .before .before .before .what .given .1) (c .before .token-differs .ensures) (λ e. is-first _ e (c .match2 .keys2))
 
 returns-2 : tie.Need-returns-2 Inv-loop μ-loop
-returns-2 c = called-error _ _ _ _ _ _ (c .before .before .before .before .before .before .before .before .loop .inv) (c .before .before .before .before .before .before .before .loop-test .taken) (c .before .before .before .before .before .before .next-lent .ensures) _ _ (c .before .before .before .what2 .given .1) (rw (c .before .code-number .ensures) at (c .end-differs .ensures))
+returns-2 c = called-error _ _ _ _ _ _ (c .before .before .before .before .before .before .before .before .loop .inv) (c .before .before .before .before .before .before .before .loop-test .taken) (c .before .before .before .before .before .before .next-lent .ensures) _ _ (c .before .before .before .what2 .given .1) (rw (c .before .rust-code .ensures) at (c .end-differs .ensures))
 
 returns-3 : tie.Need-returns-3 Inv-loop μ-loop
 returns-3 c = called-end _ _ _ _ _ _ (c .before .before .before .before .before .before .loop .inv) (c .before .before .before .before .before .loop-test .taken) (c .before .before .before .before .next-lent .ensures) _ (c .before .enum-told2 .given .1) (c .end-differs2 .ensures)
@@ -59,7 +59,6 @@ called-spec =
     returns
     (λ c. search needs)
     (λ c κs. search needs)
-    (λ c. search needs)
     (λ c κs. search needs)
     returns-2
     (λ c. search needs)

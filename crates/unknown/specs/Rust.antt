@@ -1,0 +1,90 @@
+-- ONE CALL AS IT WAS before 02, E3: half a symbol and a character that starts nothing are both the Rust's `UnrecognizedToken`. Demand 2 speaks of this reading. The
+-- definitions are those that reach such an answer, as they stood in reading/specs; every other reader is reading's own.
+use Prim.Native.Nat.{_+_, ℕ}
+use mathlib.Core.Bool.{cond}
+use mathlib.Core.List.{List, [], _∷_}
+use lib.Dec.{eqb}
+use lib.ListN.{drop}
+use Rattle.utf8.specs.Chars.{'!, '#, '-, '/, ':, '=, '>, '?, 'L, 'R, 'at, 'backtick, 'dot, 'dquote, 'quote, 'r, '~}
+use Rattle.utf8.specs.Utf8.{widthOf}
+use Rattle.unicode.specs.Identifier.{isIdentifierStart}
+use Rattle.record.specs.declared.Code.the-variants.{UnrecognizedToken, UnterminatedCode}
+use Rattle.record.specs.declared.Kind.the-variants.{DotDot, Equals, EqualsEquals, EqualsGreaterThanCode, EqualsGreaterThanLookahead, EqualsGreaterThanLookbehind, EqualsGreaterThanQuestionCode, Lookahead, Lookbehind, MinusGreaterThan, TildeTilde}
+use Rattle.scan.specs.IfNext.{ifNext}
+use Rattle.scan.specs.declared.Skip.{Skip}
+use Rattle.scan.specs.declared.Skip.the-variants.{Lost, Past}
+use Rattle.reading.specs.Answers.{more, plain, refuse}
+use Rattle.reading.specs.Attribute.{hash}
+use Rattle.reading.specs.Gaps.{gap}
+use Rattle.reading.specs.Quotes.{escape, lifetimeish, stringLiteral}
+use Rattle.reading.specs.Regex.{rWord}
+use Rattle.reading.specs.Symbols.{arrowCode, bang, colon, single, singles}
+use Rattle.reading.specs.Words.{identifierish}
+use Rattle.reading.specs.declared.Call.{Call}
+use Rattle.reading.specs.declared.What.the-variants.{End, Error}
+
+-- 01: "Lone `.`, `~`, `-`, `/`, `@` are `UnrecognizedToken` at that character."
+-- half a symbol, and a character that starts nothing: both are refused at their first character
+unfoldable pub half : ℕ → ℕ → Call
+half o at = refuse UnrecognizedToken o at 0
+
+unfoldable pub stray : ℕ → Call
+stray o = refuse UnrecognizedToken o o 0
+
+unfoldable pub dot : ℕ → List ℕ → ℕ → Call
+dot o cs at = ifNext 'dot cs (plain DotDot o (at + 1) 1) (half o at)
+
+unfoldable pub look : ℕ → List ℕ → ℕ → Call
+look o cs at = ifNext 'L cs (plain Lookahead o (at + 1) 1) (ifNext 'R cs (plain Lookbehind o (at + 1) 1) (half o at))
+
+unfoldable pub tilde : ℕ → List ℕ → ℕ → Call
+tilde o cs at = ifNext '~ cs (plain TildeTilde o (at + 1) 1) (half o at)
+
+unfoldable pub minus : ℕ → List ℕ → ℕ → Call
+minus o cs at = ifNext '> cs (plain MinusGreaterThan o (at + 1) 1) (half o at)
+
+-- after =>@. 01: "`=>@L` and `=>@R` are tokens, `=>@` otherwise is 1 at its `=`."
+unfoldable pub arrowLook : ℕ → List ℕ → ℕ → Call
+arrowLook o cs at =
+    ifNext 'L cs (plain EqualsGreaterThanLookahead o (at + 1) 1) (ifNext 'R cs (plain EqualsGreaterThanLookbehind o (at + 1) 1) (half o at))
+
+-- after =>. 01: "`=>` at the end of text is 8"
+unfoldable pub rightArrow : ℕ → List ℕ → ℕ → Call
+rightArrow o [] at = refuse UnterminatedCode o at 0
+rightArrow o (c ∷ cs) at =
+    cond (eqb c 'at) (more 1 (arrowLook o cs (at + widthOf c)))
+    (cond (eqb c '?) (more 1 (arrowCode EqualsGreaterThanQuestionCode o cs (at + widthOf c))) (arrowCode EqualsGreaterThanCode o (c ∷ cs) at))
+
+unfoldable pub equals : ℕ → List ℕ → ℕ → Call
+equals o cs at = ifNext '= cs (plain EqualsEquals o (at + 1) 1) (ifNext '> cs (more 1 (rightArrow o (drop 1 cs) (at + 1))) (plain Equals o at 0))
+
+-- by the first character c at o; the characters cs stand at next
+unfoldable pub starts : ℕ → List ℕ → ℕ → ℕ → Call
+starts c cs o next =
+    cond (eqb c '!) (more 1 (bang o cs next))
+    (cond (eqb c ':) (more 1 (colon o cs next))
+    (cond (eqb c 'dot) (more 1 (dot o cs next))
+    (cond (eqb c '=) (more 1 (equals o cs next))
+    (cond (eqb c 'at) (more 1 (look o cs next))
+    (cond (eqb c '~) (more 1 (tilde o cs next))
+    (cond (eqb c 'backtick) (more 1 (escape o cs next))
+    (cond (eqb c 'quote) (more 1 (lifetimeish o cs next))
+    (cond (eqb c 'dquote) (more 1 (stringLiteral o cs next))
+    (cond (eqb c '/) (more 1 (half o next))
+    (cond (eqb c '-) (more 1 (minus o cs next))
+    (cond (eqb c 'r) (more 1 (rWord (c ∷ cs) o cs next))
+    (cond (isIdentifierStart c) (more 1 (identifierish (c ∷ cs) o cs next)) (stray o)))))))))))))
+
+unfoldable pub token : ℕ → List ℕ → ℕ → ℕ → Call
+token c cs o next = cond (eqb c '#) (more 1 (hash o cs next)) (single singles c o next (starts c cs o next))
+
+unfoldable pub tokenOrEnd : List ℕ → ℕ → Call
+tokenOrEnd [] o = record { what = End; at = o; advances = 0 }
+tokenOrEnd (c ∷ cs) o = token c cs o (o + widthOf c)
+
+abbrev pub nextBy : List ℕ → Skip → Call
+nextBy cs (Past p m) = more m (tokenOrEnd (drop m cs) p)
+nextBy cs (Lost r p m) = record { what = Error r; at = p; advances = m }
+
+unfoldable pub next : List ℕ → ℕ → Call
+next cs at = nextBy cs (gap cs at)
