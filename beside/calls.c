@@ -1,7 +1,9 @@
 /* Calls each C function and compares with what include/teykonasir.h says: that the header fits the archive is proved nowhere. From the
  * repository's root, on x86-64:
- *   rt staticlib teykonasir && rt staticlib teykonasir_sheet && cc -Iinclude beside/calls.c target/staticlib/lib*.a -o target/calls && target/calls
+ *   rt staticlib teykonasir && rt staticlib teykonasir_sheet && rt staticlib teykonasir_read
+ *   cc -Iinclude beside/calls.c target/staticlib/lib*.a -o target/calls && target/calls
  */
+#include <inttypes.h>
 #include <stdio.h>
 #include <string.h>
 #include <sys/mman.h>
@@ -40,6 +42,96 @@ static void runs(void)
     EXPECT(teyk_run(BYTES("a"), UINT64_MAX, 0, NUMBERS(records), NUMBERS(answer)) == TEYK_SHIFT_TOO_LARGE);
     records[0] = answer[0] = 77;
     EXPECT(teyk_run(BYTES("a"), 0, 9, NUMBERS(records), answer, 3) == TEYK_NO_ROOM && answer[0] == 77 && records[0] == 77);
+}
+
+/* teyk_read with room for all: how it ended, what the first record has for the gap and for its code, and the last gap's depth */
+static int deep(const uint8_t *text, size_t length, uint64_t code, uint64_t gap, uint64_t in_code, uint64_t last)
+{
+    uint64_t answer[TEYK_READ_ANSWER], records[TEYK_READ_RECORD * 64];
+    memset(records, 0, sizeof records);
+    return teyk_read(text, length, 3, UINT64_MAX, NUMBERS(records), NUMBERS(answer)) == code && answer[0] == code
+        && records[5] == gap && records[6] == in_code && answer[4] == last && answer[5] == TEYK_NOT_TOLD;
+}
+
+/* before a token, in its code, and after the last one */
+#define EVERYWHERE(comments, depth) \
+    (deep(BYTES(comments "a"), 0, depth, 0, 0) && deep(BYTES("=>" comments ";"), 0, 0, depth, 0) && deep(BYTES("=>?" comments), 0, 0, depth, 0) \
+     && deep(BYTES("use" comments "}"), 0, 0, depth, 0) && deep(BYTES(comments), 0, 0, 0, depth) && deep(BYTES("a" comments), 0, 0, 0, depth))
+
+static void depths(void)
+{
+    EXPECT(EVERYWHERE("", 0) && EVERYWHERE(" ", 0) && EVERYWHERE("//\n", 0) && EVERYWHERE("// /* /* */\n", 0));
+    EXPECT(EVERYWHERE("/**/", 1) && EVERYWHERE("/* */", 1) && EVERYWHERE("/*/ */", 1) && EVERYWHERE("/* // */", 1) && EVERYWHERE("/**//**/", 1));
+    EXPECT(EVERYWHERE("/*/**/*/", 2) && EVERYWHERE("/* /* */ */ /* */", 2) && EVERYWHERE("/* // /* */ */", 2) && EVERYWHERE("/* /* */ /* */ */", 2));
+    EXPECT(EVERYWHERE("/* \" /* */ ' */", 2) && EVERYWHERE("/**/ // /*\n /*/**/*/", 2) && EVERYWHERE("/*/*/**/*/*/ /*/**/*/", 3));
+    /* what covers in code: strings, quotes, regexes (which need a hash fewer there) */
+    EXPECT(deep(BYTES("=>\"/*\""), 0, 0, 0, 0) && deep(BYTES("=>\"\\\"/*\"/**/"), 0, 0, 1, 0) && deep(BYTES("=>'/*;"), 0, 0, 0, 0));
+    EXPECT(deep(BYTES("=>'\\'/*';"), 0, 0, 0, 0) && deep(BYTES("=>'\"'/**/;"), 0, 0, 1, 0) && deep(BYTES("=>r#\"/*\"/*/**/*/;"), 0, 0, 2, 0));
+    EXPECT(deep(BYTES("=>r##\"\"/*\"#/**/;"), 0, 0, 1, 0) && deep(BYTES("=>r#a/**/;"), 0, 0, 1, 0) && deep(BYTES("=>(/*/**/*/,/**/);"), 0, 0, 2, 0));
+    /* tokens that have no code */
+    EXPECT(deep(BYTES("\"/*/**/*/\""), 0, 0, 0, 0) && deep(BYTES("`/*`"), 0, 0, 0, 0) && deep(BYTES("#![/*]"), 0, 0, 0, 0));
+    EXPECT(deep(BYTES("'/*'"), 0, 0, 0, 0) && deep(BYTES("r\"/*\""), 0, 0, 0, 0) && deep(BYTES("=>@L/**/"), 0, 0, 0, 1));
+    /* both, and the character that is dropped after an attribute */
+    EXPECT(deep(BYTES("/**/=>/*/**/*/;/*/*/**/*/*/"), 0, 1, 2, 3) && deep(BYTES("#![a]//**/"), 0, 0, 0, 1) && deep(BYTES("#![a]///**/"), 0, 0, 0, 0));
+    /* an error: the last depth is 0, whatever stands before it */
+    EXPECT(deep(BYTES("/**/a/*/**/*/$"), 23, 1, 0, 0) && deep(BYTES("/**/a /*/**/"), 10, 1, 0, 0) && deep(BYTES("/**/a=>/*/**/*/("), 8, 1, 0, 0));
+}
+
+static int record_is(const uint64_t *record, uint64_t kind, uint64_t start, uint64_t end, uint64_t from, uint64_t to, uint64_t gap, uint64_t code)
+{
+    return record[0] == kind && record[1] == start && record[2] == end && record[3] == from && record[4] == to && record[5] == gap
+        && record[6] == code && record[7] == TEYK_NOT_TOLD && record[8] == TEYK_NOT_TOLD;
+}
+
+static int answer_is(const uint64_t *answer, uint64_t code, uint64_t place, uint64_t count, uint64_t advances, uint64_t last)
+{
+    return told(answer, code, place, count, advances) && answer[4] == last && answer[5] == TEYK_NOT_TOLD;
+}
+
+/* what is written, and what is not: seven numbers of answer and two records with eight numbers more */
+static void reads(void)
+{
+    uint64_t answer[TEYK_READ_ANSWER + 1], records[2 * TEYK_READ_RECORD + 8];
+    const size_t length = (size_t)TEYK_TEXT_LIMIT + 1;
+    uint8_t *text = mmap(NULL, length, PROT_READ | PROT_WRITE, MAP_PRIVATE | MAP_ANONYMOUS | MAP_NORESERVE, -1, 0);
+    memset(records, 77, sizeof records);
+    const uint64_t old = records[0];
+    answer[6] = 9;
+    EXPECT(teyk_read(BYTES("/**/a=>/*/**/*/ b"), 7, UINT64_MAX, NUMBERS(records), NUMBERS(answer)) == TEYK_END);
+    EXPECT(answer_is(answer, 0, 0, 2, 17, 0) && answer[6] == 9 && records[18] == old && records[25] == old);
+    EXPECT(record_is(records, TEYK_KIND_ID, 11, 12, 11, 12, 1, 0) && record_is(records + 9, TEYK_KIND_EQUALS_GREATER_THAN_CODE, 12, 24, 14, 24, 0, 2));
+    EXPECT(teyk_read(BYTES("# /* /* */ */ "), 7, UINT64_MAX, NUMBERS(records), NUMBERS(answer)) == TEYK_END);
+    EXPECT(answer_is(answer, 0, 0, 1, 15, 2) && record_is(records, TEYK_KIND_HASH, 7, 8, 7, 7, 0, 0));
+    /* the second record is as the call before left it */
+    EXPECT(record_is(records + 9, TEYK_KIND_EQUALS_GREATER_THAN_CODE, 12, 24, 14, 24, 0, 2));
+    /* room for two, and for one: eight numbers more are no record */
+    EXPECT(teyk_read(BYTES("a/**/b/*/**/*/c"), 0, UINT64_MAX, NUMBERS(records), NUMBERS(answer)) == TEYK_NO_ROOM);
+    EXPECT(answer_is(answer, 14, 14, 2, 6, 0) && record_is(records + 9, TEYK_KIND_ID, 5, 6, 5, 6, 1, 0) && records[18] == old && records[25] == old);
+    memset(records, 77, sizeof records);
+    EXPECT(teyk_read(BYTES("a/**/b"), 0, UINT64_MAX, records, 17, NUMBERS(answer)) == TEYK_NO_ROOM && answer_is(answer, 14, 5, 1, 1, 0) && records[9] == old);
+    EXPECT(teyk_read(BYTES("a"), 0, UINT64_MAX, records, 8, NUMBERS(answer)) == TEYK_NO_ROOM && answer_is(answer, 14, 0, 0, 0, 0));
+    EXPECT(teyk_read(BYTES("/*/**/*/"), 0, UINT64_MAX, records, 0, NUMBERS(answer)) == TEYK_END && answer_is(answer, 0, 0, 0, 8, 2));
+    /* the work limit: one short of the end, and just enough; with 14 too, 15 */
+    EXPECT(teyk_read(BYTES("a/**/"), 7, 4, NUMBERS(records), NUMBERS(answer)) == TEYK_WORK_LIMIT && answer_is(answer, 15, 8, 1, 1, 0));
+    EXPECT(teyk_read(BYTES("a/**/"), 7, 5, NUMBERS(records), NUMBERS(answer)) == TEYK_END && answer_is(answer, 0, 0, 1, 5, 1));
+    EXPECT(teyk_read(BYTES("a/**/b"), 7, 5, records, 17, NUMBERS(answer)) == TEYK_WORK_LIMIT && answer_is(answer, 15, 8, 1, 1, 0));
+    /* an error, the checks, a short answer */
+    EXPECT(teyk_read(BYTES("a/**/."), 7, UINT64_MAX, NUMBERS(records), NUMBERS(answer)) == TEYK_HALF_SYMBOL && answer_is(answer, 22, 12, 1, 6, 0));
+    EXPECT(teyk_read(BYTES("a/* /**/"), 7, UINT64_MAX, NUMBERS(records), NUMBERS(answer)) == TEYK_UNTERMINATED_BLOCK_COMMENT && answer_is(answer, 10, 8, 1, 8, 0));
+    memset(records, 77, sizeof records);
+    EXPECT(teyk_read(BYTES("/**/a\377"), 5, 0, NUMBERS(records), NUMBERS(answer)) == TEYK_NOT_UTF8 && answer_is(answer, 11, 10, 0, 0, 0));
+    EXPECT(teyk_read(BYTES("\377"), UINT64_MAX, 0, NUMBERS(records), NUMBERS(answer)) == TEYK_SHIFT_TOO_LARGE && answer_is(answer, 13, 0, 0, 0, 0));
+    EXPECT(text != MAP_FAILED);
+    if (text != MAP_FAILED) {
+        EXPECT(teyk_read(text, length, UINT64_MAX, 0, NUMBERS(records), NUMBERS(answer)) == TEYK_TOO_LONG && answer_is(answer, 12, 0, 0, 0, 0));
+        munmap(text, length);
+    }
+    memset(answer, 77, sizeof answer);
+    EXPECT(teyk_read(BYTES("a"), 0, 9, NUMBERS(records), answer, 5) == TEYK_NO_ROOM && teyk_read(BYTES("\377"), 0, 9, NUMBERS(records), answer, 0) == TEYK_NO_ROOM);
+    for (size_t i = 0; i < TEYK_READ_ANSWER + 1; i++)
+        EXPECT(answer[i] == old);
+    for (size_t i = 0; i < 2 * TEYK_READ_RECORD + 8; i++)
+        EXPECT(records[i] == old);
 }
 
 /* a run with room for one record, taken up again to its end, and what each refusal leaves */
@@ -345,6 +437,187 @@ static void unknowns_compared(void)
     EXPECT(looked_at == 204205 + 128 + 128 * 128 && halves + strays == 165322 && halves > strays && strays > 60000);
 }
 
+/* ---- depths once more, by the rules' words alone: from teyk_run's records, and the characters before and in them */
+#define LONGEST 64 /* bytes of a text */
+
+static int pair(const uint8_t *text, size_t at, size_t to, const char *two)
+{
+    return at_most(text, at, to) == two[0] && at_most(text, at + 1, to) == two[1];
+}
+
+static uint64_t greater(uint64_t a, uint64_t b)
+{
+    return a < b ? b : a;
+}
+
+/* the block comment at a place: how many are open at once, at most; the place becomes its end */
+static uint64_t block_depth(const uint8_t *text, size_t *at, size_t to)
+{
+    uint64_t open = 0, most = 0;
+    do {
+        int opens = pair(text, *at, to, "/*"), closes = pair(text, *at, to, "*/");
+        open = open + opens - closes;
+        most = greater(most, open);
+        *at += opens || closes ? 2 : 1;
+    } while (open && *at < to);
+    return most;
+}
+
+static size_t line_end(const uint8_t *text, size_t at, size_t to)
+{
+    while (at < to && text[at] != '\n')
+        at++;
+    return at;
+}
+
+/* after the first quote that no backslash stands before */
+static size_t string_end(const uint8_t *text, size_t at, size_t to)
+{
+    for (at++; at < to && text[at] != '"'; at++)
+        at += text[at] == '\\';
+    return at + 1;
+}
+
+/* a backslash, the character after it and all through the next quote; or one character, and a quote after it */
+static size_t quote_end(const uint8_t *text, size_t at, size_t to)
+{
+    at++;
+    if (at_most(text, at, to) != '\\') {
+        at += width(text[at]);
+        return at + (at_most(text, at, to) == '\'');
+    }
+    at++;
+    at += width(text[at]);
+    while (at < to && text[at] != '\'')
+        at++;
+    return at + 1;
+}
+
+/* of the characters beyond ASCII only \303\251 is asked about */
+static int in_word(int c)
+{
+    return (c >= 'a' && c <= 'z') || (c >= 'A' && c <= 'Z') || (c >= '0' && c <= '9') || c == '_' || c >= 0x80;
+}
+
+/* a hash after the letter r: a regex that is closed by a quote and one hash fewer than it has, or a word */
+static size_t hashed_end(const uint8_t *text, size_t at, size_t to)
+{
+    size_t hashes = 0, after = 0;
+    for (at++; at_most(text, at, to) == '#'; at++)
+        hashes++;
+    if (at_most(text, at, to) != '"') {
+        while (in_word(at_most(text, at, to)))
+            at++;
+        return at;
+    }
+    do {
+        for (at++; at < to && text[at] != '"'; at++)
+            ;
+        for (after = 0; after + 1 < hashes && at_most(text, at + 1 + after, to) == '#'; after++)
+            ;
+    } while (at < to && after + 1 < hashes);
+    return at + 1 + after;
+}
+
+/* what code passes at once from a place that starts no comment: its end */
+static size_t code_step(const uint8_t *text, size_t at, size_t to)
+{
+    if (text[at] == '"')
+        return string_end(text, at, to);
+    if (text[at] == '\'')
+        return quote_end(text, at, to);
+    return pair(text, at, to, "r#") ? hashed_end(text, at, to) : at + 1;
+}
+
+/* of the block comments in a stretch of characters, which are code or a gap: the greatest depth */
+static uint64_t stretch_depth(const uint8_t *text, size_t at, size_t to, int in_code)
+{
+    uint64_t most = 0;
+    while (at < to) {
+        if (pair(text, at, to, "/*"))
+            most = greater(most, block_depth(text, &at, to));
+        else if (pair(text, at, to, "//"))
+            at = line_end(text, at, to);
+        else
+            at = in_code ? code_step(text, at, to) : at + 1;
+    }
+    return most;
+}
+
+/* where the gap after a record starts: one character is dropped after an attribute */
+static size_t gap_start(const uint8_t *text, size_t length, const uint64_t *record, uint64_t shift)
+{
+    size_t end = record[2] - shift;
+    return end + (record[0] == TEYK_KIND_SHEBANG_ATTRIBUTE && end < length ? width(text[end]) : 0);
+}
+
+static uint64_t code_of(const uint8_t *text, const uint64_t *record, uint64_t shift)
+{
+    int code = record[0] == TEYK_KIND_USE || record[0] == TEYK_KIND_EQUALS_GREATER_THAN_CODE || record[0] == TEYK_KIND_EQUALS_GREATER_THAN_QUESTION_CODE;
+    return code ? stretch_depth(text, record[3] - shift, record[4] - shift, 1) : 0;
+}
+
+/* each record's gap and code, two numbers a record, and then the last gap, which is 0 unless the text was read to its end */
+static void depths_of(uint64_t *depths, const uint8_t *text, size_t length, uint64_t shift, const uint64_t *records, const uint64_t *answer)
+{
+    size_t at = 0;
+    for (uint64_t i = 0; i < answer[2]; i++) {
+        const uint64_t *record = records + TEYK_RECORD * i;
+        *depths++ = stretch_depth(text, at, record[1] - shift, 0);
+        *depths++ = code_of(text, record, shift);
+        at = gap_start(text, length, record, shift);
+    }
+    *depths = answer[0] ? 0 : stretch_depth(text, at, length, 0);
+}
+
+/* teyk_read beside teyk_run, with the same shift, limit and room: what is told, and nothing beyond it. The depths are left behind */
+static uint64_t read_compare(uint64_t *depths, const uint8_t *text, size_t length, uint64_t shift, uint64_t limit, size_t room)
+{
+    uint64_t five[TEYK_RECORD * LONGEST], nine[TEYK_READ_RECORD * LONGEST + 8], ran[TEYK_RUN_ANSWER], read[TEYK_READ_ANSWER + 1];
+    teyk_run(text, length, shift, limit, five, TEYK_RECORD * room, NUMBERS(ran));
+    depths_of(depths, text, length, shift, five, ran);
+    memset(nine, 77, (TEYK_READ_RECORD * room + 8) * sizeof *nine);
+    memset(read, 77, sizeof read);
+    const uint64_t old = read[TEYK_READ_ANSWER], *last = depths + 2 * ran[2];
+    if (teyk_read(text, length, shift, limit, nine, TEYK_READ_RECORD * room + 8, NUMBERS(read)) != ran[0] || memcmp(read, ran, sizeof ran))
+        differs("teyk_read's answer", text, length, read[0], ran[0]);
+    if (read[4] != *last || read[5] != TEYK_NOT_TOLD || read[6] != old)
+        differs("the last gap's depth", text, length, read[4], *last);
+    for (uint64_t i = 0; i < ran[2]; i++) {
+        const uint64_t *record = nine + TEYK_READ_RECORD * i;
+        if (memcmp(record, five + TEYK_RECORD * i, TEYK_RECORD * sizeof *five) || record[7] != TEYK_NOT_TOLD || record[8] != TEYK_NOT_TOLD)
+            differs("teyk_read's record", text, length, i, record[0]);
+        if (record[5] != depths[2 * i])
+            differs("the gap's depth", text, length, i, record[5]);
+        if (record[6] != depths[2 * i + 1])
+            differs("the code's depth", text, length, i, record[6]);
+    }
+    for (size_t i = TEYK_READ_RECORD * ran[2]; i < TEYK_READ_RECORD * room + 8; i++)
+        if (nine[i] != old)
+            differs("a number beyond the records", text, length, i, nine[i]);
+    return ran[2];
+}
+
+static uint64_t read_texts, deep_gaps, deep_codes, deepest_gap, deepest_code;
+
+/* with all the room that is wanted, with room for one record, and with half of the work */
+static void read_compares(const uint8_t *text, size_t length)
+{
+    uint64_t depths[2 * LONGEST + 1], gap = 0, code = 0, count = read_compare(depths, text, length, 7, UINT64_MAX, length);
+    for (uint64_t i = 0; i < count; i++) {
+        gap = greater(gap, depths[2 * i]);
+        code = greater(code, depths[2 * i + 1]);
+    }
+    gap = greater(gap, depths[2 * count]);
+    read_texts++;
+    deep_gaps += gap >= 2;
+    deep_codes += code >= 2;
+    deepest_gap = greater(deepest_gap, gap);
+    deepest_code = greater(deepest_code, code);
+    read_compare(depths, text, length, 0, UINT64_MAX, 1);
+    read_compare(depths, text, length, UINT64_MAX - length, length / 2, length);
+}
+
 /* ---- the sheet once more, by the request's words alone: from teyk_run's records, and the characters of the gaps between them */
 static size_t counted(const uint8_t *text, size_t from, size_t to)
 {
@@ -386,7 +659,7 @@ static void gap_adds(uint64_t *adds, const uint8_t *text, size_t at, size_t to)
 /* what a text adds to a sheet, and the code and the place of it */
 static void text_adds(uint64_t *adds, uint64_t *answer, const uint8_t *text, size_t length)
 {
-    uint64_t records[TEYK_RECORD * 4 * MOST];
+    uint64_t records[TEYK_RECORD * LONGEST], depths[2 * LONGEST + 1];
     size_t at = 0;
     memset(adds, 0, TEYK_SHEET * sizeof *adds);
     teyk_run(text, length, 0, (uint64_t)1 << 50, NUMBERS(records), answer, TEYK_RUN_ANSWER);
@@ -406,11 +679,14 @@ static void text_adds(uint64_t *adds, uint64_t *answer, const uint8_t *text, siz
     }
     gap_adds(adds, text, at, length);
     adds[TEYK_SHEET_ADVANCES] = answer[3];
+    depths_of(depths, text, length, 0, records, answer);
+    for (uint64_t i = 0; i <= 2 * answer[2]; i++)
+        adds[TEYK_SHEET_DEEPEST] = greater(adds[TEYK_SHEET_DEEPEST], depths[i]);
 }
 
 #define BEYOND 2 /* numbers after the sheet, which stay */
 
-static uint64_t sheet[TEYK_SHEET + BEYOND], sums[TEYK_SHEET], taken_texts, ended, tallied, full_sheets;
+static uint64_t sheet[TEYK_SHEET + BEYOND], sums[TEYK_SHEET], taken_texts, ended, tallied, unclosed, full_sheets;
 
 /* a sheet with 1,024 texts: one more is refused, and it holds their sums */
 static void full(const uint8_t *text, size_t length)
@@ -432,10 +708,11 @@ static void sheet_compare(const uint8_t *text, size_t length)
     taken_texts++;
     ended += ran[0] == 0;
     tallied += ran[0] != 0;
+    unclosed += ran[0] == TEYK_UNTERMINATED_BLOCK_COMMENT;
     if (teyk_sheet_take(text, length, NUMBERS(sheet), NUMBERS(answer)) != ran[0] || answer[0] != ran[0] || answer[1] != ran[1] || answer[2] != 9)
         differs("teyk_sheet_take", text, length, answer[0], answer[1]);
     for (size_t i = 0; i < TEYK_SHEET; i++) {
-        sums[i] += adds[i];
+        sums[i] = i == TEYK_SHEET_DEEPEST ? greater(sums[i], adds[i]) : sums[i] + adds[i];
         if (sheet[i] != sums[i])
             differs("the sheet's number", text, length, i, sheet[i]);
         sums[i] = sheet[i];
@@ -448,22 +725,33 @@ static void sheet_compare(const uint8_t *text, size_t length)
 static void sheet_compare_all(const char *const *alphabet, size_t letters, uint8_t *text, size_t length, int more)
 {
     sheet_compare(text, length);
+    read_compares(text, length);
     for (size_t i = 0; more && i < letters; i++) {
         memcpy(text + length, alphabet[i], strlen(alphabet[i]));
         sheet_compare_all(alphabet, letters, text, length + strlen(alphabet[i]), more - 1);
     }
 }
 
-/* texts of all kinds, and longer ones of what comments are made of: the shortest that are nested have eight characters */
+/* texts of all kinds, and longer ones of what comments are made of: the shortest that are nested have eight characters. Then marks of comments with all
+ * that covers in code, and whole comments before, in and after all that may hold one. teyk_read reads them all too */
 static void sheets_compared(void)
 {
     static const char *const all[] = {"a", " ", "\n", "/", "*", "#", "!", "[", "]", "\303\251", "\343\200\200"}, *const comments[] = {"/", "*", "\n"};
-    uint8_t text[4 * MOST];
+    static const char *const covers[] = {"/*", "*/", "/", "*", "=>", "use ", ";", "\n", "\"", "'", "\\", "r#"};
+    static const char *const nested[] = {"/**/", "/*/**/*/", "/* // /* */ */", "/*/*/**/*/*/", "/*", "*/", "/", "// /*\n", "//", "\n", "=>", "=>?", "use ", ";",
+                                         "(", ")", "\"\\\"/*\"", "'\"'", "'\\'/*'", "r#\"", "r#ar##\"/*\"", "`/*`", "#![/*]", "\303\251"};
+    uint8_t text[LONGEST];
     sheet[TEYK_SHEET] = 7;
     sheet[TEYK_SHEET + 1] = UINT64_MAX;
     sheet_compare_all(NUMBERS(all), text, 0, MOST);
     sheet_compare_all(NUMBERS(comments), text, 0, 9);
     EXPECT(taken_texts == 177156 + 29524 && full_sheets == 201 && ended == 124493 && tallied == 82187);
+    sheet_compare_all(NUMBERS(covers), text, 0, 5);
+    sheet_compare_all(NUMBERS(nested), text, 0, 4);
+    EXPECT(taken_texts == 177156 + 29524 + 271453 + 346201 && read_texts == taken_texts && full_sheets == 805);
+    printf("depths: %" PRIu64 " texts, each read three times: %" PRIu64 " have depth 2 or more in a gap (at most %" PRIu64 "), %" PRIu64 " in code (at most %" PRIu64
+           "), %" PRIu64 " a comment that is not closed\n", read_texts, deep_gaps, deepest_gap, deep_codes, deepest_code, unclosed);
+    EXPECT(deep_gaps == 71332 && deep_codes == 12470 && unclosed == 116272 && deepest_gap == 4 && deepest_code == 4 && ended + tallied == taken_texts);
 }
 
 /* a sheet of 96 numbers with so many texts taken, and one number that is m */
@@ -539,6 +827,8 @@ static void files(void)
 int main(void)
 {
     runs();
+    depths();
+    reads();
     resumes();
     names();
     expansions();

@@ -11,7 +11,7 @@
 #define PAINT 0xA5
 
 static const char *const called[] = {"nothing", "teyk_run", "teyk_resume", "teyk_expand", "teyk_place", "teyk_place_at", "teyk_ltk_write",
-                                     "teyk_ltk_read", "teyk_sheet_take", "teyk_name_of_kind", "teyk_name_of_code"};
+                                     "teyk_ltk_read", "teyk_sheet_take", "teyk_read", "teyk_name_of_kind", "teyk_name_of_code"};
 enum { CALLS = sizeof called / sizeof *called };
 
 static const char *const shapes[] = {
@@ -21,13 +21,13 @@ static const char *const shapes[] = {
 };
 
 static uint8_t text[LONGEST], buffer[TEYK_LTK_SIZE(LONGEST)], stack[1 << 16];
-static uint64_t records[TEYK_RECORD * LONGEST], sheet[TEYK_SHEET], count;
+static uint64_t records[TEYK_READ_RECORD * LONGEST], sheet[TEYK_SHEET], count;
 static size_t length, most[CALLS];
 static int which;
 
 static void call(void)
 {
-    uint64_t answer[4], state[TEYK_STATE] = {0, 0, 0, 0};
+    uint64_t answer[TEYK_READ_ANSWER], state[TEYK_STATE] = {0, 0, 0, 0};
     if (which == 1) {
         teyk_run(text, length, 0, UINT64_MAX, records, TEYK_RECORD * LONGEST, answer, 4);
         count = answer[2];
@@ -45,8 +45,10 @@ static void call(void)
         teyk_ltk_read(buffer, TEYK_LTK_SIZE(count), records, TEYK_RECORD * LONGEST, answer, 4);
     else if (which == 8)
         teyk_sheet_take(text, length, sheet, TEYK_SHEET, answer, 4);
-    for (uint64_t n = 0; which > 8 && n <= TEYK_KINDS; n++)
-        (which == 9 ? teyk_name_of_kind : teyk_name_of_code)(n, text, TEYK_NAME_MOST, answer, 4);
+    else if (which == 9)
+        teyk_read(text, length, 0, UINT64_MAX, records, TEYK_READ_RECORD * LONGEST, answer, TEYK_READ_ANSWER);
+    for (uint64_t n = 0; which > 9 && n <= TEYK_KINDS; n++)
+        (which == 10 ? teyk_name_of_kind : teyk_name_of_code)(n, text, TEYK_NAME_MOST, answer, 4);
 }
 
 static void measure(void)

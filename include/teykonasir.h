@@ -1,8 +1,9 @@
 /* teykonasir.h: the proved tokenizer of LALRPOP grammars, for C.
  *
- * The archive target/staticlib/libteykonasir.a is made by `rt staticlib teykonasir`, for x86-64 Linux. teyk_sheet_take alone stands in an archive
- * of its own, libteykonasir_sheet.a, made by `rt staticlib teykonasir_sheet`; a program may link both. They need memcpy and memset of the C library
- * and nothing else, and take no memory beyond what is lent to them and a fixed stack.
+ * The archive target/staticlib/libteykonasir.a is made by `rt staticlib teykonasir`, for x86-64 Linux. teyk_sheet_take and teyk_read stand each in an
+ * archive of its own: libteykonasir_sheet.a, made by `rt staticlib teykonasir_sheet`, and libteykonasir_read.a, made by `rt staticlib teykonasir_read`. A
+ * program may link any of the three, and all. They need memcpy and memset of the C library and nothing else, and take no memory beyond what is lent to
+ * them and a fixed stack.
  *
  * What every function has in common
  *   - A slice is two arguments, its pointer and its length in elements. A pointer is never NULL, not even with length 0; uint64_t
@@ -14,8 +15,8 @@
  *   - Nothing else is written than what is said here.
  *   - Threads: there is no state but what is lent. Every function may be called from any number of threads at once, as long as no slice
  *     that one call writes is used by another.
- *   - Stack: no function calls itself. The frames of the deepest chain of calls in the archives' code take 2,384 bytes together, those of
- *     teyk_sheet_take 2,928, and 128 below the last of them may be used; 1,680 and 2,192 were seen used on a painted stack (both by
+ *   - Stack: no function calls itself. The frames of the deepest chain of calls in the archives' code take 2,656 bytes together, those of
+ *     teyk_sheet_take 3,216, and 128 below the last of them may be used; 1,808 and 2,336 were seen used on a painted stack (both by
  *     beside/stack). Where the dynamic loader binds memcpy or memset only at its first call, that call takes some 3,200 more.
  *   - Words are Unicode 15.0.0's: XID_Start, XID_Continue and White_Space.
  */
@@ -29,9 +30,9 @@
 extern "C" {
 #endif
 
-#define TEYK_VERSION "4.3.0"
+#define TEYK_VERSION "4.4.0"
 #define TEYK_VERSION_MAJOR 4
-#define TEYK_VERSION_MINOR 3
+#define TEYK_VERSION_MINOR 4
 #define TEYK_VERSION_PATCH 0
 
 /* The codes. 1 to 10 are LALRPOP's own. Its 1 is answered as 22 or 23 since version 4.3.0, at the same place: who wants LALRPOP's code takes both for 1.
@@ -136,6 +137,12 @@ enum teyk_kind {
 /* How many numbers a record has: kind, start, end, payload start, payload end. This stays five. */
 #define TEYK_RECORD 5
 
+/* How many numbers a record of teyk_read has: those five, depth of the gap before it, depth of its code, and two that are not told yet. */
+#define TEYK_READ_RECORD 9
+
+/* A number that is not told. */
+#define TEYK_NOT_TOLD UINT64_MAX
+
 /* How many numbers `state` has: cursor, count, done, place. */
 #define TEYK_STATE 4
 
@@ -145,6 +152,7 @@ enum teyk_kind {
 /* How many numbers each function tells in `answer`. */
 #define TEYK_RUN_ANSWER 4
 #define TEYK_RESUME_ANSWER 4
+#define TEYK_READ_ANSWER 6
 #define TEYK_EXPAND_ANSWER 4
 #define TEYK_PLACE_ANSWER 2
 #define TEYK_PLACE_AT_ANSWER 1
@@ -165,6 +173,7 @@ enum teyk_sheet {
     TEYK_SHEET_ADVANCES = 58, /* advances */
     TEYK_SHEET_FAILED = 59, /* failed attribute attempts */
     TEYK_SHEET_TAKEN = 60, /* texts taken, those that ended in an error counted */
+    TEYK_SHEET_DEEPEST = 61, /* the largest depth of comments, in gaps and in code */
     TEYK_SHEET_TALLY = 64 /* and the code more: texts that ended in that error */
 };
 
@@ -213,6 +222,24 @@ uint64_t teyk_run(const uint8_t *text, size_t text_len, uint64_t shift, uint64_t
  * call leaves a done of 11 to 29; it is answered as that error. */
 uint64_t teyk_resume(const uint8_t *text, size_t text_len, uint64_t shift, uint64_t limit, uint64_t *state, size_t state_len,
                      uint64_t *records, size_t records_len, uint64_t *answer, size_t answer_len);
+
+/* Reads a text as teyk_run does, and tells how deep the block comments before and in each token go.
+ *
+ * Each token becomes a record of nine numbers in `records`: the five of teyk_run, the depth of the gap before it, the depth of its code, and two that are
+ * TEYK_NOT_TOLD, since no version tells them yet. The room is records_len / 9 records; numbers beyond the told number of records are not written. A
+ * records_len of 9 x text_len always suffices. `shift` and `limit` are those of teyk_run.
+ *
+ * The depth of a block comment is how many are open at once, at most: 1 with no other inside, 2 with two inside that stand side by side. A gap is the
+ * whitespace and the comments before a token, or after the last one; the character dropped after an attribute is in none. Code is the payload of the kinds 13,
+ * 30 and 31; every other kind has 0 for it. The depth of a gap, and of code, is the greatest of its block comments', 0 without one. A comment's mark is none in
+ * a line comment, nor in a string, a regex or a quote that code passes, nor in a token without code. In a block comment every mark counts, after `//` and in
+ * quotes too.
+ *
+ * answer: code, place, number of records, advances, depth of the last gap, and TEYK_NOT_TOLD, since no version tells that number yet. The last gap's depth
+ * is 0 unless the code is 0. The result is the code. The first four numbers are those that teyk_run answers with the same text, shift, limit and room; the
+ * tests and their order are the same. With an `answer` of fewer than six numbers the result is 14, and nothing is written. */
+uint64_t teyk_read(const uint8_t *text, size_t text_len, uint64_t shift, uint64_t limit, uint64_t *records, size_t records_len,
+                   uint64_t *answer, size_t answer_len);
 
 /* Expands the escapes of a string literal's payload: \\ \" \n \r \t \0 \xHL (H octal, L hexadecimal).
  *
@@ -293,8 +320,9 @@ uint64_t teyk_ltk_write(const uint64_t *records, size_t records_len, uint8_t *bu
  *   58         its advances: these characters, and what failed attempts cost
  *   59         the failed attribute attempts
  *   60         1: a text taken
- * A text that ends in an error adds 1 to number 64 + code, 1 to number 60, and nothing else. To 61, 62, 63 and the other numbers nothing is
- * added. The order of the texts does not matter, as long as all of them are taken.
+ * and number 61 becomes the greatest depth of its gaps and of its tokens' code, as teyk_read tells them, where that is more: it is the largest of all
+ * texts that were read to their end, and no sum. A text that ends in an error adds 1 to number 64 + code, 1 to number 60, and changes nothing else. To 62, 63
+ * and the other numbers nothing is added. The order of the texts does not matter, as long as all of them are taken.
  *
  * answer: code, place. The result is the code:
  *    0         the text was taken, and read to its end; the place is 0

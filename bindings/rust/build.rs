@@ -1,5 +1,5 @@
-//! Finds the two archives of the proved functions and links them: the files that TEYK_ARCHIVE and TEYK_SHEET_ARCHIVE name (with the first alone, the sheet's
-//! is libteykonasir_sheet.a beside it), or those that `rt staticlib` makes in the repository that this crate stands in.
+//! Finds the three archives of the proved functions and links them: the files that TEYK_ARCHIVE, TEYK_SHEET_ARCHIVE and TEYK_READ_ARCHIVE name (with the
+//! first alone, libteykonasir_sheet.a and libteykonasir_read.a beside it), or those that `rt staticlib` makes in the repository that this crate stands in.
 use std::env;
 use std::fs;
 use std::io::ErrorKind;
@@ -7,7 +7,7 @@ use std::path::{Path, PathBuf};
 use std::process::{exit, Command};
 
 /// Each archive's name, and the variable that may name its file.
-const ARCHIVES: [(&str, &str); 2] = [("teykonasir", "TEYK_ARCHIVE"), ("teykonasir_sheet", "TEYK_SHEET_ARCHIVE")];
+const ARCHIVES: [(&str, &str); 3] = [("teykonasir", "TEYK_ARCHIVE"), ("teykonasir_sheet", "TEYK_SHEET_ARCHIVE"), ("teykonasir_read", "TEYK_READ_ARCHIVE")];
 
 fn main() {
     println!("cargo:rerun-if-changed=build.rs");

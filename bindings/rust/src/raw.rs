@@ -23,6 +23,16 @@ extern "C" {
         answer: *mut u64,
         answer_len: usize,
     ) -> u64;
+    pub fn teyk_read(
+        text: *const u8,
+        text_len: usize,
+        shift: u64,
+        limit: u64,
+        records: *mut u64,
+        records_len: usize,
+        answer: *mut u64,
+        answer_len: usize,
+    ) -> u64;
     pub fn teyk_expand(text: *const u8, text_len: usize, idx0: u64, buffer: *mut u8, buffer_len: usize, place: u64, answer: *mut u64, answer_len: usize)
         -> u64;
     pub fn teyk_place(text: *const u8, text_len: usize, place: u64, answer: *mut u64, answer_len: usize) -> u64;

@@ -17,6 +17,7 @@ const DROPPED: usize = 57;
 const ADVANCES: usize = 58;
 const FAILED: usize = 59;
 const TAKEN: usize = 60;
+const DEEPEST: usize = 61;
 const TALLY: usize = 64;
 
 /// What became of a text that a [`Sheet`] was handed.
@@ -38,7 +39,7 @@ pub enum Taken {
 /// assert_eq!(sheet.take("#![a] \u{e9} /* x */ #"), Taken::Whole);
 /// assert_eq!((sheet.tokens(Kind::ShebangAttribute), sheet.tokens(Kind::Id), sheet.tokens(Kind::Hash)), (1, 1, 1));
 /// assert_eq!((sheet.in_tokens(), sheet.in_whitespace(), sheet.in_comments(), sheet.dropped()), (7, 2, 7, 1));
-/// assert_eq!(sheet.failed(), 1);
+/// assert_eq!((sheet.failed(), sheet.deepest()), (1, 1));
 /// // an error is tallied, and nothing else of its text is added
 /// let error = Refusal { code: Code::UnterminatedBlockComment, place: 2 };
 /// assert_eq!(sheet.take("b /*"), Taken::Tallied(error));
@@ -119,6 +120,20 @@ impl Sheet {
         self.numbers[TAKEN]
     }
 
+    /// The greatest depth of block comments, before, after and in the code of tokens, as [`read`](crate::read) tells them: the largest of all texts that were
+    /// read to their end, and no sum. A plain comment has 1.
+    ///
+    /// ```
+    /// let mut sheet = teykonasir::Sheet::new();
+    /// for (text, deepest) in [("// /*", 0), ("a /* /* */ */", 2), ("=> /**/;", 2), ("=> /*/*/**/*/*/;", 3), ("/*/*/*/* */*/*/*/ .", 3)] {
+    ///     sheet.take(text);
+    ///     assert_eq!(sheet.deepest(), deepest);
+    /// }
+    /// ```
+    pub const fn deepest(&self) -> u64 {
+        self.numbers[DEEPEST]
+    }
+
     /// The texts that ended in an error of this code.
     pub const fn tally(&self, code: Code) -> u64 {
         self.numbers[TALLY + code.number() as usize]
@@ -192,5 +207,6 @@ mod tests {
         }
         assert_eq!(sheet.in_tokens() + sheet.in_whitespace() + sheet.in_comments() + sheet.dropped(), text.chars().count() as u64);
         assert_eq!((sheet.advances(), sheet.dropped(), sheet.failed(), sheet.in_comments()), (ran.advances, 1, 1, 4 + 13));
+        assert_eq!(sheet.deepest(), 2);
     }
 }

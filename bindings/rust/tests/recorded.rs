@@ -3,7 +3,7 @@
 use std::path::Path;
 use std::str::from_utf8;
 use teykonasir::tok::{Tok, Tokenizer};
-use teykonasir::{expand, expand_into, resume, run, run_to_vec, Code, Kind, Ran, Record, Refusal, State};
+use teykonasir::{expand, expand_into, read, read_to_vec, resume, run, run_to_vec, Code, DeepRecord, Kind, Ran, Record, Refusal, State};
 
 struct Reader<'a>(&'a [u8]);
 
@@ -80,6 +80,17 @@ fn by_vec(case: &Text) {
     let mut records = vec![];
     assert_eq!(mapped(run_to_vec(case.text, case.shift, u64::MAX, &mut records)), case.ran);
     assert_eq!(records, case.records);
+}
+
+/// With depths, into a slice that has room for one more, and into a list: the records are the same.
+fn by_depths(case: &Text) {
+    let (mut slice, mut list) = (vec![DeepRecord::default(); case.records.len() + 1], vec![]);
+    let deep = read(case.text, case.shift, u64::MAX, &mut slice);
+    assert_eq!((mapped(deep.ran), deep.last_depth.is_some()), (case.ran, case.ran.how.is_ok()));
+    assert_eq!(slice.pop(), Some(DeepRecord::default()));
+    assert!(slice.iter().map(|r| &r.record).eq(&case.records));
+    assert_eq!(read_to_vec(case.text, case.shift, u64::MAX, &mut list), deep);
+    assert_eq!(list, slice);
 }
 
 /// In pieces, with room for none to three records and a limit that grows; the last answer is repeated.
@@ -175,6 +186,7 @@ fn as_recorded() {
             let case = text_of(bytes, &mut body);
             by_slice(&case);
             by_vec(&case);
+            by_depths(&case);
             by_pieces(&case);
             if let Ok(text) = from_utf8(case.text) {
                 by_iterator(&case, text);

@@ -13,13 +13,13 @@ use Rattle.record.specs.declared.Code.the-variants.{BadRecord}
 use Rattle.record.specs.declared.Refusal.{Refusal}
 use Rattle.record.specs.declared.Token.{Token}
 use Rattle.reading.specs.Answers.{startState}
-use Rattle.reading.specs.declared.Stepped.{Stepped}
 use Rattle.reading.specs.declared.Tokenizer.{Tokenizer}
 use Rattle.reading.specs.declared.What.the-variants.{End, Error, Got}
 use Rattle.run.specs.Checked.{nextToken}
 use Rattle.run.specs.Numbers.{groupSize}
 use Rattle.run.specs.Payload.{isPayload, payloadCheck}
 use Rattle.lent.specs.Copies.{highestLimit}
+use Rattle.lent.specs.declared.Called.{Called as Answer}
 use Rattle.recorded.specs.declared.Difference.{Difference}
 use Rattle.recorded.specs.declared.Difference.the-variants.{Length, Same}
 use Rattle.asked.specs.Answers.{onward}
@@ -60,10 +60,11 @@ module _ (s : List ℕ) (shift : ℕ) (recorded : List ℕ) where
   called-start t e = record { few = omega arith; on = rw e }
 
   -- one call more, which answers r
-  module _ (n : ℕ) (t : Tokenizer) (r : Stepped) (c : Called n t) (l : n < mostTokens) (e : r ≡ nextToken s shift highestLimit t) where
+  module _ (n : ℕ) (t : Tokenizer) (r : Answer) (c : Called n t) (l : n < mostTokens)
+      (e : (r .what ≡ nextToken s shift highestLimit t .what) × (r .next ≡ nextToken s shift highestLimit t .next)) where
     turn : calledDiffers s shift recorded ≡ callDiffers s shift recorded (callsDiffer s shift recorded (mostTokens - (n + 1))) n (r .next) (r .what)
     unfolding callsDiffer
-    turn = let f : mostTokens - n ≡ suc (mostTokens - (n + 1)) = omega arith in rw e (rw f at (c .on))
+    turn = let f : mostTokens - n ≡ suc (mostTokens - (n + 1)) = omega arith in rw (e .0, e .1) (rw f at (c .on))
 
     module _ (x : Token) (d : Difference) (w : r .what ≡ Got x) (p : d ≡ tokenDiffers s shift recorded n x) where
       unfoldable after : Difference

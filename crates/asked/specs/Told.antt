@@ -17,6 +17,7 @@ use Rattle.reading.specs.declared.Outcome.the-variants.{Ended, Refused as Stopp
 use Rattle.run.specs.Checked.{ranOf, ranWith, wholeRun, wholeRunWith}
 use Rattle.run.specs.Numbers.{numbersAll}
 use Rattle.run.specs.declared.Ran.{Ran}
+use Rattle.run.specs.declared.Group.the-variants.{Five}
 use Rattle.run.proofs.Groups.{all-length}
 use Rattle.escapes.specs.Answers.{Done, applied, partCheck, partOf}
 use Rattle.escapes.specs.declared.Expanded.{Expanded}
@@ -62,14 +63,14 @@ run-told : (recorded : List ℕ) (r : Ran) (ts : List Token) (list more : List �
     → runDiffers recorded r list ≡ Same → recorded ≡ answered r ts
 unfolding runDiffers size
 run-told recorded r ts list more n l i e =
-    let f : length (numbersAll ts) ≡ 5 * r .stored = all-length ts ∙ ap (λ (k : ℕ). 5 * k) (sym n) in
+    let f : length (numbersAll ts) ≡ 5 * r .stored = all-length Five ts ∙ ap (λ (k : ℕ). 5 * k) (sym n) in
     let t = take-at (numbersAll ts) more (5 * r .stored) f in
     answer-told 5 recorded _ (numbersAll ts) (rw (le-ltb mostTokens (r .stored) (omega arith), i, t) at e)
 
 -- the numbers of so many tokens have room
 fits : (ts : List Token) → length ts ≤ mostTokens → fitted (numbersAll ts) blank ≡ over (numbersAll ts) blank
 unfolding fitted
-fits ts l = let n = all-length ts in rw (le-ltb (length blank) (length (numbersAll ts)) (omega (arith, n, blank-length)))
+fits ts l = let n = all-length Five ts in rw (le-ltb (length blank) (length (numbersAll ts)) (omega (arith, n, blank-length)))
 
 -- the same by the codes as they are
 abbrev pub rustCodeOf : Outcome → ℕ

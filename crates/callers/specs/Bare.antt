@@ -10,22 +10,19 @@ use Rattle.record.specs.Records.{tokenOf}
 use Rattle.record.specs.declared.Code.{Code}
 use Rattle.record.specs.declared.Kind.{Kind}
 use Rattle.record.specs.declared.Kind.the-variants.{StringLiteral}
-use Rattle.record.specs.declared.Refusal.{Refusal}
 use Rattle.record.specs.declared.Token.{Token}
 use Rattle.scan.specs.Until.{left}
 use Rattle.reading.specs.Next.{next}
-use Rattle.reading.specs.Run.{shiftToken, shiftWhat}
-use Rattle.reading.specs.declared.Stepped.{Stepped}
+use Rattle.reading.specs.Run.{shiftToken}
 use Rattle.reading.specs.declared.Tokenizer.{Tokenizer}
-use Rattle.reading.specs.declared.What.{What}
-use Rattle.reading.specs.declared.What.the-variants.{End, Error, Got}
-use Rattle.run.specs.Checked.{nextToken, wholeRun}
+use Rattle.reading.specs.declared.What.the-variants.{Got}
+use Rattle.run.specs.Checked.{wholeRun}
 use Rattle.run.specs.declared.Ran.{Ran}
 use Rattle.ledger.specs.Answered.{SaysIn, hasPayload, next-says}
 use Rattle.ledger.specs.Books.{held}
 use Rattle.ledger.specs.Order.{Called, called, found}
 use Rattle.callers.specs.Contracts.{Nexts, RunsFrom}
-use Rattle.callers.specs.Single.{Single, callOf, end-kept, error-kept, errorAt, limited, off, read, refused, single}
+use Rattle.callers.specs.Single.{delivered}
 
 -- a token whose kind has no payload has both payload places at its start; `hasPayload` (ledger/specs/Answered) names the eleven kinds that have one
 pub record Bare (t : Token) : Type 0 where
@@ -51,7 +48,7 @@ string-has = refl
 call-bare : (cs : List ℕ) (at : ℕ) (t : Token) → next cs at .what ≡ Got t → Bare t
 call-bare cs at t e =
     let h = next-says Bare (λ (c : Code). Unit {0}) (λ kind o p h. record { from = λ _. refl; to = λ _. refl })
-    (λ kind o p from to k s. has kind o p from to k) tt tt tt tt tt tt tt tt (λ o p from to. has StringLiteral o p from to string-has) cs at in
+    (λ kind o p from to k s. has kind o p from to k) tt tt tt tt tt tt tt tt (λ o p from to. has StringLiteral o p from to string-has) (λ g d t b. record { from = b .from; to = b .to }) cs at in
     let w : SaysIn Bare (λ (c : Code). Unit {0}) (Got t) = rw e at (h .is) in
     w
 
@@ -74,21 +71,7 @@ bare-at (t ∷ ts) zero d h l = h .0
 bare-at (t ∷ ts) (suc i) d h l = bare-at ts i d (h .1) (omega arith)
 
 -- and of the token that a single call answers
-shifted-bare : (s : List ℕ) (shift : ℕ) (t : Tokenizer) (y : Token) (w : What) → callOf s t .what ≡ w → shiftWhat shift w ≡ Got y → Bare y
-shifted-bare s shift t y (Got x) g e = let q : shiftToken shift x ≡ y = cc in rw q at (shift-bare shift x (call-bare (left s (t .at)) (t .at) x g))
-shifted-bare s shift t y (Error z) g e = let q : _≡_ {A = ℕ} 0 1 = cc in absurd (omega arith)
-shifted-bare s shift t y End g e = let q : _≡_ {A = ℕ} 0 1 = cc in absurd (omega arith)
-
 pub bare-next : (s : List ℕ) (shift limit : ℕ) (t : Tokenizer) (y : Token) (u : Tokenizer) → Nexts s shift limit t (Got y) u → Bare y
-bare-next s shift limit t y u c = go (single s shift limit t)
-  where
-    error : (z : Refusal) → nextToken s shift limit t ≡ errorAt t z → Bare y
-    error z e = let f : Error z ≡ Got y = sym (c .0 ∙ ap (λ (x : Stepped). x .what) e) in let w : _≡_ {A = ℕ} 0 1 = cc in absurd (omega arith)
-
-    go : Single s shift limit t (nextToken s shift limit t) → Bare y
-    go (refused z k e) = error z e
-    go (off k n e) = error _ e
-    go (error-kept z k e) = error z e
-    go (end-kept k e) = let f : End ≡ Got y = sym (c .0 ∙ ap (λ (x : Stepped). x .what) e) in let w : _≡_ {A = ℕ} 0 1 = cc in absurd (omega arith)
-    go (limited k l e) = error _ e
-    go (read k l e) = shifted-bare s shift t y (callOf s t .what) refl (sym (c .0 ∙ ap (λ (x : Stepped). x .what) e))
+bare-next s shift limit t y u c =
+    let d = delivered s shift limit t y u c in
+    rw (d .shifted) (shift-bare shift (d .token) (call-bare (left s (t .at)) (t .at) (d .token) (d .got)))

@@ -52,7 +52,7 @@ DoneBy (Refused r) = OneOf readingCodes (r .code)
 -- of a call of the reading
 reads : (cs : List ℕ) (at : ℕ) → SaysIn (λ (t : Token). Unit {0}) (OneOf readingCodes) (next cs at .what)
 unfolding among
-reads cs at = (next-says (λ t. Unit {0}) (OneOf readingCodes) (λ kind o p h. tt) (λ kind o p from to h s. tt) refl refl refl refl refl refl refl refl (λ o p from to. tt) cs at) .is
+reads cs at = (next-says (λ t. Unit {0}) (OneOf readingCodes) (λ kind o p h. tt) (λ kind o p from to h s. tt) refl refl refl refl refl refl refl refl (λ o p from to. tt) (λ g d t h. h) cs at) .is
 
 done-by : (shift : ℕ) (w : What) → SaysIn (λ (t : Token). Unit {0}) (OneOf readingCodes) w → DoneBy (doneBy (shiftWhat shift w))
 done-by shift (Got t) h = tt

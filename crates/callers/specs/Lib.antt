@@ -7,6 +7,7 @@ pub mod TakingUp
 pub mod Spans
 pub mod Bare
 pub mod Strings
+pub mod Depths
 pub mod Ends
 pub mod Refusals
 pub mod Exactly

@@ -39,7 +39,7 @@ module _ (s : List ℕ) (shift limit : ℕ) (t : Tokenizer) (z : Refusal) (refus
 
   -- a run answers it, reports count 0, stores nothing and leaves the tokenizer
   pub refused-run : (before : List Token) (r : Ran) (after : List Token) → RunsFrom s shift limit t before r after
-      → (r ≡ record { stored = 0; how = Refused z; advances = 0; state = t }) × (after ≡ before)
+      → (r ≡ record { stored = 0; how = Refused z; advances = 0; state = t; «last_depth» = 0 }) × (after ≡ before)
   unfolding ranWith wholeRunWith
   refused-run before r after c = (c .0 ∙ rw refused, c .1 ∙ rw refused)
 
@@ -98,7 +98,7 @@ said-error End how z h e = let q : _≡_ {A = ℕ} 0 1 = cc in absurd (omega ari
 
 -- a run that answers one of 11 to 13 reports count 0, stores nothing and leaves the tokenizer
 pub count-zero : (s : List ℕ) (shift limit : ℕ) (t : Tokenizer) → Kept s t → (before : List Token) (r : Ran) (after : List Token) → RunsFrom s shift limit t before r after
-    → (z : Refusal) → isCheck (z .code) ≡ true → r .how ≡ Refused z → (r ≡ record { stored = 0; how = Refused z; advances = 0; state = t }) × (after ≡ before)
+    → (z : Refusal) → isCheck (z .code) ≡ true → r .how ≡ Refused z → (r ≡ record { stored = 0; how = Refused z; advances = 0; state = t; «last_depth» = 0 }) × (after ≡ before)
 unfolding among
 count-zero s shift limit t k before r after c z h e =
     let d = repeated s shift limit t before r after c in

@@ -68,9 +68,9 @@ module _ (s : List ℕ) (shift limit : ℕ) where
   last-more room n u how state b (answers f h q) = answers f h q
 
   -- a call that answers no token
-  at-once : (room : ℕ) (t u : Tokenizer) (w : What) (how : Outcome) → nextToken s shift limit t .what ≡ w → nextToken s shift limit t .next ≡ u → ((y : Token) → w ≡ Got y → ⊥) → how ≡ doneBy w
-      → TellsOf s shift limit room t (stopped how u)
-  at-once room t u w how e q f h = record { reached = t; fits = omega arith; calls = none; last = answers (λ y g. f y (sym e ∙ g)) (h ∙ ap (λ (x : What). doneBy x) (sym e)) (sym q) }
+  at-once : (room : ℕ) (t u : Tokenizer) (w : What) (how : Outcome) (g : ℕ) → nextToken s shift limit t .what ≡ w → nextToken s shift limit t .next ≡ u → ((y : Token) → w ≡ Got y → ⊥) → how ≡ doneBy w
+      → TellsOf s shift limit room t (record { tokens = []; how = how; state = u; last = g })
+  at-once room t u w how g e q f h = record { reached = t; fits = omega arith; calls = none; last = answers (λ y g. f y (sym e ∙ g)) (h ∙ ap (λ (x : What). doneBy x) (sym e)) (sym q) }
 
   module _ (c : checks s shift ≡ Passed) where
     next-step : (t : Tokenizer) → boundary s (t .at) ≡ true → step s shift limit t ≡ nextToken s shift limit t
@@ -110,10 +110,10 @@ module _ (s : List ℕ) (shift limit : ℕ) where
         go ih (Got y) e = some ih y e (ltb 0 room) refl
         go ih (Error z) e =
             rw (run-error s shift limit k room t z e)
-            (at-once room t _ (Error z) (Refused z) (ap (λ (x : Stepped). x .what) same ∙ e) (ap (λ (x : Stepped). x .next) same) (no-got z) refl)
+            (at-once room t _ (Error z) (Refused z) 0 (ap (λ (x : Stepped). x .what) same ∙ e) (ap (λ (x : Stepped). x .next) same) (no-got z) refl)
         go ih End e =
             rw (run-end s shift limit k room t e)
-            (at-once room t _ End Ended (ap (λ (x : Stepped). x .what) same ∙ e) (ap (λ (x : Stepped). x .next) same) no-end refl)
+            (at-once room t _ End Ended (step s shift limit t .«gap_depth») (ap (λ (x : Stepped). x .what) same ∙ e) (ap (λ (x : Stepped). x .next) same) no-end refl)
 
   -- of every run, refused by the checks or read
   pub tells : (room : ℕ) (t : Tokenizer) → TellsOf s shift limit room t (wholeRun s shift limit room t)
@@ -121,8 +121,8 @@ module _ (s : List ℕ) (shift limit : ℕ) where
   tells room t = go (checks s shift) (boundary s (t .at)) refl refl
     where
       go : (c : Checked) (b : Bool) → checks s shift ≡ c → boundary s (t .at) ≡ b → TellsOf s shift limit room t (runIf (checks s shift) s shift limit room t)
-      go (Stopped r) b e q = rw e (at-once room t t (Error r) (Refused r) (rw e) (rw e) (no-got r) refl)
-      go Passed false e q = rw (e, q) (at-once room t t (Error (refusal BadRecord 0)) (Refused (refusal BadRecord 0)) (rw (e, q)) (rw (e, q)) (no-got (refusal BadRecord 0)) refl)
+      go (Stopped r) b e q = rw e (at-once room t t (Error r) (Refused r) 0 (rw e) (rw e) (no-got r) refl)
+      go Passed false e q = rw (e, q) (at-once room t t (Error (refusal BadRecord 0)) (Refused (refusal BadRecord 0)) 0 (rw (e, q)) (rw (e, q)) (no-got (refusal BadRecord 0)) refl)
       go Passed true e q = rw (e, q) (tells-from e (suc (length s)) room t q (never-running s shift limit room t (ready-of s shift t e q)))
 
 -- THE THEOREM. What a caller of `run::run` finds in the list, its answer and its tokenizer are those of repeated `run::next`.

@@ -76,7 +76,7 @@ module _ (s : List ℕ) (shift limit : ℕ) (how : Outcome) (u : Tokenizer) (f :
   again-next r v c = let h = next-is how (k .is) f in (ap (λ (w : What). doneBy w) (c .0) ∙ h .0, c .1 ∙ h .1)
 
   pub again-run : (before : List Token) (r : Ran) (after : List Token) → RunsFrom s shift limit u before r after
-      → (r ≡ record { stored = 0; how = how; advances = u .count; state = u }) × (after ≡ before)
+      → (r ≡ record { stored = 0; how = how; advances = u .count; state = u; «last_depth» = 0 }) × (after ≡ before)
   unfolding ranWith
   again-run before r after c =
       let h = run-is (length before) how (k .is) f in
@@ -105,7 +105,7 @@ module _ (s : List ℕ) (shift limit : ℕ) (t : Tokenizer) (r : What) (u : Toke
 
   -- and so does a run, which stores nothing
   pub next-then-run : (before : List Token) (r′ : Ran) (after : List Token) → RunsFrom s shift limit′ u before r′ after
-      → (r′ ≡ record { stored = 0; how = doneBy r; advances = u .count; state = u }) × (after ≡ before)
+      → (r′ ≡ record { stored = 0; how = doneBy r; advances = u .count; state = u; «last_depth» = 0 }) × (after ≡ before)
   next-then-run before r′ after d = again-run s shift limit′ (doneBy r) u f kept-next before r′ after d
 
 -- After a run that answered an error of the reading or the end
@@ -122,5 +122,5 @@ module _ (s : List ℕ) (shift limit : ℕ) (t : Tokenizer) (before : List Token
   run-then-next r′ v d = again-next s shift limit′ (r .how) (r .state) f kept-run r′ v d
 
   pub run-then-run : (before′ : List Token) (r′ : Ran) (after′ : List Token) → RunsFrom s shift limit′ (r .state) before′ r′ after′
-      → (r′ ≡ record { stored = 0; how = r .how; advances = r .advances; state = r .state }) × (after′ ≡ before′)
+      → (r′ ≡ record { stored = 0; how = r .how; advances = r .advances; state = r .state; «last_depth» = 0 }) × (after′ ≡ before′)
   run-then-run before′ r′ after′ d = rw counted (again-run s shift limit′ (r .how) (r .state) f kept-run before′ r′ after′ d)

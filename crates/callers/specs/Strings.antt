@@ -24,8 +24,8 @@ use Rattle.scan.specs.declared.Found.{Found}
 use Rattle.scan.specs.declared.Found.the-variants.{At, Nothing}
 use Rattle.scan.specs.declared.Skip.{Skip}
 use Rattle.scan.specs.declared.Skip.the-variants.{Lost, Past}
-use Rattle.reading.specs.Answers.{deliver, more, refuse}
-use Rattle.reading.specs.Gaps.{gap}
+use Rattle.reading.specs.Answers.{deliver, more, refuse, told, toldToken}
+use Rattle.reading.specs.Gaps.{gap, gapDepth}
 use Rattle.reading.specs.Next.{next, starts, token, tokenOrEnd}
 use Rattle.reading.specs.Quotes.{stringLiteral}
 use Rattle.reading.specs.Run.{shiftToken}
@@ -40,6 +40,7 @@ use Rattle.spans.specs.Strings.{ClosedAt, string-found}
 use Rattle.ledger.specs.Answered.{SaysIn, first-says, hasPayload, isString}
 use Rattle.ledger.specs.Books.{held}
 use Rattle.ledger.specs.Order.{Called, called, found}
+use Rattle.ledger.specs.Untold.{untold}
 use Rattle.callers.specs.Contracts.{RunsFrom}
 
 -- a token that spans a string: where its opening quote stands, the characters after it, and how many of them come before the one that closes it
@@ -119,16 +120,33 @@ module _ (s : List ℕ) (shift : ℕ) (t : Token) where
           by-string p cs (rw d at l) (ap (λ (x : Call). x .what) (sym (quote-first cs p)) ∙ e′)
       go false q = no (sym k ∙ others c cs p q t e)
 
-  call-quoted : (at : ℕ) → next (left s at) at .what ≡ Got t → isString (t .kind) ≡ true → Quoted s shift (shiftToken shift t)
-  unfolding more
-  call-quoted at e k = go (gap (left s at) at) refl
-    where
-      go : (x : Skip) → gap (left s at) at ≡ x → Quoted s shift (shiftToken shift t)
-      go (Past p m) g = by-first p (left s p) refl (ap (λ (x : Call). x .what) (sym (next-gap s at p m g)) ∙ e) k
-      go (Lost r p m) g =
-          let u : Error r ≡ Got t = ap (λ (x : Call). x .what) (sym (next-lost s at p m r g)) ∙ e in
-          let w : _≡_ {A = ℕ} 0 1 = cc in
-          absurd (omega arith)
+-- depths change nothing of it
+deep-quoted : (s : List ℕ) (shift g d : ℕ) (t : Token) → Quoted s shift (shiftToken shift t) → Quoted s shift (shiftToken shift (toldToken g d t))
+deep-quoted s shift g d t q = record {
+  place = q .place;
+  chars = q .chars;
+  inside = q .inside;
+  opened = q .opened;
+  closed = q .closed;
+  start = q .start;
+  from = q .from;
+  to = q .to;
+  end = q .end;
+}
+
+call-quoted : (s : List ℕ) (shift : ℕ) (t : Token) (at : ℕ) → next (left s at) at .what ≡ Got t → isString (t .kind) ≡ true → Quoted s shift (shiftToken shift t)
+unfolding more told
+call-quoted s shift t at e k = go (gap (left s at) at) refl
+  where
+    go : (x : Skip) → gap (left s at) at ≡ x → Quoted s shift (shiftToken shift t)
+    go (Past p m) g =
+        let y = tokenOrEnd (left s p) p in
+        let u = untold (gapDepth (left s at) at) (y .«code_depth») (y .what) t (ap (λ (x : Call). x .what) (sym (next-gap s at p m g)) ∙ e) in
+        rw (u .with-depths) (deep-quoted s shift _ _ (u .token) (by-first s shift (u .token) p (left s p) refl (u .got) (rw (u .with-depths) at k)))
+    go (Lost r p m) g =
+        let u : Error r ≡ Got t = ap (λ (x : Call). x .what) (sym (next-lost s at p m r g)) ∙ e in
+        let w : _≡_ {A = ℕ} 0 1 = cc in
+        absurd (omega arith)
 
 all-quoted : (s : List ℕ) (shift at : ℕ) (ts : List Token) → Called s shift at ts → AllQuoted s shift ts
 all-quoted s shift at [] c = tt

@@ -96,15 +96,16 @@ module _ (s : List ℕ) (shift limit : ℕ) (t : Tokenizer) (list : List Token) 
       go u k (answers f h q) = let g = halts s shift limit u k (rw h at stopped) in rw (q, g .1) (g .0)
 
 -- ---- one run, and the same run in two parts
--- the records, the answer, the count and the tokenizer of a run in two parts
+-- the records, the answer, the count, the tokenizer and the last gap's depth of a run in two parts
 pub record Joined (first second whole : List Token) (r r′ : Ran) : Type 0 where
   pub records : whole ≡ first ++ second
   pub answer : r .how ≡ r′ .how
   pub count : r .advances ≡ r′ .advances
   pub state : r .state ≡ r′ .state
+  pub last : r .«last_depth» ≡ r′ .«last_depth»
 
 -- THE THEOREM. A run was stopped by 14 or 15. A second run takes it up where it left the tokenizer, with another list and a limit at least as high. Then
--- the two lists hold together what one run with that limit and room for both holds; its answer, its count and its tokenizer are the second run's.
+-- the two lists hold together what one run with that limit and room for both holds; its answer, its count, its tokenizer and its last gap's depth are the second run's.
 module _ (s : List ℕ) (shift limit limit′ : ℕ) (t : Tokenizer) (list₁ list₂ list : List Token) (r₁ r₂ r : Ran) (after₁ after₂ after : List Token)
     (kept : Kept s t) (higher : limit ≤ limit′) (room : length list ≡ r₁ .stored + length list₂)
     (first : RunsFrom s shift limit t list₁ r₁ after₁) (second : RunsFrom s shift limit′ (r₁ .state) list₂ r₂ after₂) (one : RunsFrom s shift limit′ t list r after) where
@@ -133,4 +134,5 @@ module _ (s : List ℕ) (shift limit limit′ : ℕ) (t : Tokenizer) (list₁ li
             counts s shift limit′ t list r after one (g .passed) ∙ ap (λ (z : Tokenizer). z .count) same
             ∙ sym (counts s shift limit′ (r₁ .state) list₂ r₂ after₂ second (g .passed));
         state = same;
+        last = ap (λ (z : Ran). z .«last_depth») (one .0) ∙ ap (λ (z : Run). z .last) v ∙ sym (ap (λ (z : Ran). z .«last_depth») (second .0));
       }

@@ -10,6 +10,7 @@ use Rattle.utf8.specs.Utf8.{widthOf}
 use Rattle.unicode.specs.Identifier.{isIdentifierStart}
 use Rattle.record.specs.Records.{refusal}
 use Rattle.record.specs.declared.Code.the-variants.{ExpectedStringLiteral, UnterminatedCharacterLiteral, UnterminatedCode, UnterminatedStringLiteral}
+use Rattle.scan.specs.Depth.{walkDepth}
 use Rattle.scan.specs.IfNext.{ifNext}
 use Rattle.scan.specs.Seek.{blockComment, lineSkip, regexSkip, seek, skipMore, stringSkip, upTo}
 use Rattle.scan.specs.Walk.{turnOf, walk}
@@ -106,3 +107,7 @@ codeLast start b at n = cond (eqb b 0) (Past at n) (Lost (refusal UnterminatedCo
 
 abbrev pub codeEnd : ℕ → List ℕ → ℕ → Skip
 codeEnd start cs at = walk codeTurn (codeLast start) 0 cs at
+
+-- the greatest depth of the block comments in the code
+abbrev pub codeDepth : List ℕ → ℕ → ℕ
+codeDepth cs at = walkDepth codeTurn cs at

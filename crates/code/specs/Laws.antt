@@ -12,11 +12,13 @@ use Rattle.utf8.specs.Utf8.{widthOf}
 use Rattle.record.specs.Records.{refusal}
 use Rattle.record.specs.declared.Code.the-variants.{UnterminatedCharacterLiteral}
 use Rattle.record.specs.declared.Refusal.{Refusal}
+use Rattle.scan.specs.Depth.{coverDepth, slashDepth}
 use Rattle.scan.specs.Far.{Far}
 use Rattle.scan.specs.Passes.{Balance, From, Good, Sound, balances, block-sound, from-lost, from-past, from-test, goods, quote-past, regex-sound, seek-at, seek-none, sound-here, sound-lost, sound-more, sound-next, sound-one, sound-test, upto-sound, walk-sound}
 use Rattle.scan.specs.Readers.{regexEnd}
 use Rattle.scan.specs.Seek.{blockComment, lineSkip, seek, skipMore}
 use Rattle.scan.specs.Until.{left}
+use Rattle.scan.specs.Walk.{turnOf}
 use Rattle.scan.specs.declared.Found.{Found}
 use Rattle.scan.specs.declared.Found.the-variants.{At, Nothing}
 use Rattle.scan.specs.declared.Skip.{Skip}
@@ -148,6 +150,11 @@ code-pass b c cs at next p m b′ e = (rw e at ((code-good b c cs at next) .is),
 
 pub code-fail : (b c : ℕ) (cs : List ℕ) (at next : ℕ) (r : Refusal) (p m : ℕ) → codeTurn b c cs at next ≡ Fail r p m → Far cs next m p
 code-fail b c cs at next r p m e = rw e at ((code-good b c cs at next) .is)
+
+-- what a slash does, and how deep the comment goes that it starts
+pub slash-turns : (b c : ℕ) → c ≡ '/ → (cs : List ℕ) (at next : ℕ) → (codeTurn b c cs at next ≡ turnOf b (slashSkip at cs next)) × (coverDepth c cs ≡ slashDepth cs)
+unfolding codeTurn
+slash-turns b c e cs at next = rw e (refl, refl)
 
 -- what stands after a slash, by the code's own sight of it
 module _ (o : ℕ) {s : List ℕ} {at : ℕ} where

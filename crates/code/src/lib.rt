@@ -2,10 +2,12 @@
 // come there, as the ledger counts them.
 use record::Code;
 use record::Refusal;
+use scan::Deep;
 use scan::Found;
 use scan::Skip;
 use scan::Sought;
 use scan::Turn;
+use scan::Turned;
 use utf8::Sight;
 use utf8::signs;
 ghost use mathlib.Core.Path.{_≡_};
@@ -14,11 +16,14 @@ ghost use lib.ListN.{length, drop};
 ghost use Rattle.utf8.specs.Utf8.{chars};
 ghost use Rattle.record.specs.Records.{refusal};
 ghost use Rattle.scan.specs.declared.Skip.the-variants.{Lost};
-ghost use Rattle.scan.specs.Seek.{skipMore};
+ghost use Rattle.utf8.specs.Chars.{'/};
+ghost use Rattle.scan.specs.Depth.{commentDepth, coverDepth, slashDepth};
+ghost use Rattle.scan.specs.Seek.{blockComment, skipMore};
+ghost use Rattle.scan.specs.Walk.{turnOf};
 ghost use Rattle.scan.specs.Passes.{passedOf};
 ghost use Rattle.scan.specs.Runs.{run};
 ghost use Rattle.code.specs.Stops.{classStop, codeStops};
-ghost use Rattle.code.specs.Code.{slashSkip, quoteEnd, oneSkip, escSkip, quoteSkip, regexStart, closingHashes, bodySkip, hashSkip, rSkip, opens, closes, codeTurn, codeEnd};
+ghost use Rattle.code.specs.Code.{slashSkip, quoteEnd, oneSkip, escSkip, quoteSkip, regexStart, closingHashes, bodySkip, hashSkip, rSkip, opens, closes, codeTurn, codeEnd, codeDepth};
 
 // What starts at o is refused; the cursor stands at p, after m characters.
 fn lost(code: Code, o: usize, p: usize, m: usize) -> Skip
@@ -42,21 +47,40 @@ fn skip_more(n: usize, x: Skip) -> Skip
     }
 }
 
+// A block comment that starts at o, from after its slash and star; the star is counted.
+fn block_skip(s: &[u8], at: usize, o: usize) -> Deep
+    ensures { λ r. ⌜ (r .skip ≡ skipMore 1 (blockComment o (chars (drop at (now (s .entry)))) at)) × (r .depth ≡ commentDepth (chars (drop at (now (s .entry))))) ⌝ }
+{
+    let x = scan::block_comment(s, at, o);
+    let skip = x.skip;
+    Deep {
+        skip: skip_more(1, skip),
+        depth: x.depth,
+    }
+}
+
+// What is passed without a block comment.
+fn flat(skip: Skip) -> Deep
+    ensures { λ r. ⌜ (r .skip ≡ skip) × (r .depth ≡ 0) ⌝ }
+{
+    Deep { skip, depth: 0 }
+}
+
 // After a slash at o: a comment, or nothing to pass.
-fn slash_skip(s: &[u8], at: usize, o: usize) -> Skip
-    ensures { λ r. ⌜ r ≡ slashSkip o (chars (drop at (now (s .entry)))) at ⌝ }
+fn slash_skip(s: &[u8], at: usize, o: usize) -> Deep
+    ensures { λ r. ⌜ (r .skip ≡ slashSkip o (chars (drop at (now (s .entry)))) at) × (r .depth ≡ slashDepth (chars (drop at (now (s .entry))))) ⌝ }
 {
     match utf8::char_at(s, at) {
         Sight::Char { code, width } => {
             if code == signs::SLASH {
-                return scan::up_to(scan::take_until(s, at, Sought::Newline));
+                return flat(scan::up_to(scan::take_until(s, at, Sought::Newline)));
             }
             if code == signs::STAR {
-                return skip_more(1, scan::block_comment(s, at + width, o));
+                return block_skip(s, at + width, o);
             }
-            Skip::Past(at, 0)
+            flat(Skip::Past(at, 0))
         }
-        Sight::End => Skip::Past(at, 0),
+        Sight::End => flat(Skip::Past(at, 0)),
     }
 }
 
@@ -198,9 +222,9 @@ fn is_close(c: u32) -> bool
     c == signs::RIGHT_BRACE
 }
 
-// What the character c at a place does, with b brackets open. Any closer answers any opener.
+// What the character c at a place does, with b brackets open, if it is no slash. Any closer answers any opener.
 fn code_turn(s: &[u8], at: usize, next: usize, c: u32, b: usize) -> Turn
-    requires { ⌜ b < 9223372036854775808 ⌝ }
+    requires { ⌜ (b < 9223372036854775808) × (c ≡ '/ → ⊥) ⌝ }
     ensures { λ r. ⌜ r ≡ codeTurn b c (chars (drop next (now (s .entry)))) at next ⌝ }
 {
     if c == signs::DOUBLE_QUOTE {
@@ -211,9 +235,6 @@ fn code_turn(s: &[u8], at: usize, next: usize, c: u32, b: usize) -> Turn
     }
     if c == signs::LOWER_R {
         return scan::to_turn(b, r_skip(s, next, at));
-    }
-    if c == signs::SLASH {
-        return scan::to_turn(b, slash_skip(s, next, at));
     }
     if is_open(c) {
         return Turn::Pass(next, 0, b + 1);
@@ -234,6 +255,32 @@ fn code_turn(s: &[u8], at: usize, next: usize, c: u32, b: usize) -> Turn
         return Turn::Stop;
     }
     Turn::Pass(next, 0, b)
+}
+
+// What a slash at a place does.
+fn slash_turn(s: &[u8], at: usize, next: usize, b: usize) -> Turned
+    ensures { λ r. ⌜ (r .turn ≡ turnOf b (slashSkip at (chars (drop next (now (s .entry)))) next)) × (r .depth ≡ slashDepth (chars (drop next (now (s .entry))))) ⌝ }
+{
+    let x = slash_skip(s, next, at);
+    let skip = x.skip;
+    Turned {
+        turn: scan::to_turn(b, skip),
+        depth: x.depth,
+    }
+}
+
+// What the character c at a place does, with b brackets open, and how deep the comment goes that it starts.
+fn turn(s: &[u8], at: usize, next: usize, c: u32, b: usize) -> Turned
+    requires { ⌜ b < 9223372036854775808 ⌝ }
+    ensures { λ r. ⌜ (r .turn ≡ codeTurn b c (chars (drop next (now (s .entry)))) at next) × (r .depth ≡ coverDepth c (chars (drop next (now (s .entry))))) ⌝ }
+{
+    if c == signs::SLASH {
+        return slash_turn(s, at, next, b);
+    }
+    Turned {
+        turn: code_turn(s, at, next, c, b),
+        depth: 0,
+    }
 }
 
 // Up to a byte that has no dot in the table: for speed alone. What a run is, is said by `run`.
@@ -259,44 +306,63 @@ fn index(x: u8) -> usize
 }
 
 // The loop of `code`, with a table of all bytes: a dot for each one that changes nothing.
-fn code_by<'a>(stops: &'a [u8], s: &'a [u8], at: usize, start: usize) -> Skip
+fn code_by<'a>(stops: &'a [u8], s: &'a [u8], at: usize, start: usize) -> Deep
     requires { ⌜ now stops ≡ codeStops ⌝ }
-    ensures { λ r. ⌜ r ≡ codeEnd start (chars (drop at (now (s .entry)))) at ⌝ }
+    ensures { λ r. ⌜ (r .skip ≡ codeEnd start (chars (drop at (now (s .entry)))) at) × (r .depth ≡ codeDepth (chars (drop at (now (s .entry)))) at) ⌝ }
 {
     let mut p = at;
     let mut n: usize = 0;
     let mut b: usize = 0;
+    let mut deep: usize = 0;
     loop {
         let to = code_run(stops, s, p);
         n = n + (to - p);
         p = to;
         match utf8::char_at(s, p) {
-            Sight::Char { code, width } => match code_turn(s, p, p + width, code, b) {
-                Turn::Stop => {
-                    return Skip::Past(p, n);
+            Sight::Char { code, width } => {
+                let x = turn(s, p, p + width, code, b);
+                let what = x.turn;
+                match what {
+                    Turn::Stop => {
+                        return Deep {
+                            skip: Skip::Past(p, n),
+                            depth: deep,
+                        };
+                    }
+                    Turn::Fail(r, q, m) => {
+                        return Deep {
+                            skip: Skip::Lost(r, q, n + 1 + m),
+                            depth: deep,
+                        };
+                    }
+                    Turn::Pass(q, m, d) => {
+                        p = q;
+                        n = n + 1 + m;
+                        b = d;
+                        deep = scan::deeper(deep, x.depth);
+                    }
                 }
-                Turn::Fail(r, q, m) => {
-                    return Skip::Lost(r, q, n + 1 + m);
-                }
-                Turn::Pass(q, m, d) => {
-                    p = q;
-                    n = n + 1 + m;
-                    b = d;
-                }
-            },
+            }
             Sight::End => {
                 if b == 0 {
-                    return Skip::Past(p, n);
+                    return Deep {
+                        skip: Skip::Past(p, n),
+                        depth: deep,
+                    };
                 }
-                return lost(Code::UnterminatedCode, start, p, n);
+                return Deep {
+                    skip: lost(Code::UnterminatedCode, start, p, n),
+                    depth: deep,
+                };
             }
         }
     }
 }
 
-// The Rust's `code`: where the code from a place ends, for a token that starts at `start`. The table is lent once for the whole loop.
-pub fn code(s: &[u8], at: usize, start: usize) -> Skip
-    ensures { λ r. ⌜ r ≡ codeEnd start (chars (drop at (now (s .entry)))) at ⌝ }
+// The Rust's `code`: where the code from a place ends, for a token that starts at `start`, and the greatest depth of the comments in it. The table is
+// lent once for the whole loop.
+pub fn code(s: &[u8], at: usize, start: usize) -> Deep
+    ensures { λ r. ⌜ (r .skip ≡ codeEnd start (chars (drop at (now (s .entry)))) at) × (r .depth ≡ codeDepth (chars (drop at (now (s .entry)))) at) ⌝ }
 {
     code_by(
         b"..................................#....###..#..#...........#...............................#.#....................#........#.#..################################################################################################################################",

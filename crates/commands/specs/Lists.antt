@@ -6,6 +6,7 @@ use mathlib.Core.Path.{_≡_}
 use lib.Dec.{ltb}
 use lib.ListN.{drop, getD, length}
 use Rattle.record.specs.Numbers.{codeNumber, kindNumber}
+use Rattle.record.specs.Records.{toldNumber}
 use Rattle.record.specs.declared.Code.the-variants.{TooLong}
 use Rattle.record.specs.declared.Refusal.{Refusal}
 use Rattle.record.specs.declared.Token.{Token}
@@ -13,10 +14,14 @@ use Rattle.reading.specs.Answers.{startState}
 use Rattle.reading.specs.declared.Outcome.{Outcome}
 use Rattle.reading.specs.declared.Outcome.the-variants.{Ended, Refused, Running}
 use Rattle.run.specs.Checked.{ranOf, wholeRun}
+use Rattle.run.specs.Numbers.{sizeOf}
+use Rattle.run.specs.declared.Group.{Group}
+use Rattle.run.specs.declared.Group.the-variants.{Five, Nine}
+use Rattle.run.specs.declared.Ran.{Ran}
 use Rattle.place.specs.Place.{lineColumn}
 use Rattle.text.specs.Lay.{Laid}
 use Rattle.text.specs.declared.Came.{Came}
-use Rattle.text.specs.Lines.{endLine, errorLine, headerLine, limitLine, peopleLine, tokenLine}
+use Rattle.text.specs.Lines.{depthLine, endDepthLine, endLine, errorLine, headerLine, limitLine, peopleLine, tokenLine}
 
 -- 01: "The listing program reads standard input up to 32,768 bytes (more: 12)."
 abbrev pub textLimit : ℕ
@@ -30,22 +35,30 @@ highest = 18446744073709551615
 abbrev pub room : ℕ
 room = textLimit
 
-abbrev pub recordLine : Token → List ℕ
-recordLine t = tokenLine (kindNumber (t .kind)) (t .start) (t .end)
+-- of five numbers 01's line; 02, E4: of nine "`list --depth` adds the two depths to each line"
+abbrev pub recordLine : Group → Token → List ℕ
+recordLine Five t = tokenLine (kindNumber (t .kind)) (t .start) (t .end)
+recordLine Nine t = depthLine (kindNumber (t .kind)) (t .start) (t .end) (toldNumber (t .«gap_depth»)) (toldNumber (t .«code_depth»))
 
-abbrev pub lastLine : Outcome → ℕ → List ℕ
-lastLine (Refused r) advances = errorLine (codeNumber (r .code)) (r .place) advances
-lastLine Ended advances = endLine advances
-lastLine Running advances = endLine advances
+-- "and the last gap's to the end's"
+abbrev pub finalLine : Group → ℕ → ℕ → List ℕ
+finalLine Five advances depth = endLine advances
+finalLine Nine advances depth = endDepthLine advances depth
 
--- 01's listing of a text, line by line
-unfoldable pub runLines : List ℕ → List (List ℕ)
-runLines s =
-    map recordLine (wholeRun s 0 highest room startState .tokens)
-    ++ (lastLine (ranOf s 0 highest room startState .how) (ranOf s 0 highest room startState .advances) ∷ [])
+abbrev pub lastLine : Group → Outcome → ℕ → ℕ → List ℕ
+lastLine g (Refused r) advances depth = errorLine (codeNumber (r .code)) (r .place) advances
+lastLine g Ended advances depth = finalLine g advances depth
+lastLine g Running advances depth = finalLine g advances depth
 
-unfoldable pub listing : List ℕ → List (List ℕ)
-listing s = cond (ltb textLimit (length s)) (errorLine (codeNumber TooLong) 0 0 ∷ []) (runLines s)
+abbrev pub ranLine : Group → Ran → List ℕ
+ranLine g r = lastLine g (r .how) (r .advances) (r .«last_depth»)
+
+-- the listing of a text, line by line; of five numbers 01's
+unfoldable pub runLines : Group → List ℕ → List (List ℕ)
+runLines g s = map (recordLine g) (wholeRun s 0 highest room startState .tokens) ++ (ranLine g (ranOf s 0 highest room startState) ∷ [])
+
+unfoldable pub listing : Group → List ℕ → List (List ℕ)
+listing g s = cond (ltb textLimit (length s)) (errorLine (codeNumber TooLong) 0 0 ∷ []) (runLines g s)
 
 -- where several files are listed, each stands under its name
 unfoldable pub headerLines : Bool → List ℕ → List (List ℕ)
@@ -73,13 +86,17 @@ pub record Left (out err : Laid) (to : Came) (held : List ℕ) (to′ : Came) (h
   pub err-held : held′ ≡ err .held
 
 -- ---- the command `list`
-unfoldable pub listOut : Bool → List ℕ → List ℕ → List (List ℕ)
-listOut headed name s = headerLines headed name ++ listing s
+unfoldable pub listOut : Group → Bool → List ℕ → List ℕ → List (List ℕ)
+listOut g headed name s = headerLines headed name ++ listing g s
 
 unfoldable pub listErr : List ℕ → List ℕ → List (List ℕ)
 listErr name s = cond (ltb textLimit (length s)) (limitLines name textLimit) (peopleLines name s (ranOf s 0 highest room startState .how))
 
--- ---- records as the code has them: groups of five numbers
-unfoldable pub numberLines : ℕ → List ℕ → List (List ℕ)
-numberLines zero l = []
-numberLines (suc n) l = tokenLine (getD l 0 0) (getD l 1 0) (getD l 2 0) ∷ numberLines n (drop 5 l)
+-- ---- records as the code has them: groups of numbers
+abbrev pub numberLine : Group → List ℕ → List ℕ
+numberLine Five l = tokenLine (getD l 0 0) (getD l 1 0) (getD l 2 0)
+numberLine Nine l = depthLine (getD l 0 0) (getD l 1 0) (getD l 2 0) (getD l 5 0) (getD l 6 0)
+
+unfoldable pub numberLines : Group → ℕ → List ℕ → List (List ℕ)
+numberLines g zero l = []
+numberLines g (suc n) l = numberLine g l ∷ numberLines g n (drop (sizeOf g) l)

@@ -9,8 +9,10 @@ use Rattle.record.specs.declared.Code.the-variants.{TooLong}
 use Rattle.record.specs.declared.Token.{Token}
 use Rattle.reading.specs.Answers.{startState}
 use Rattle.run.specs.Checked.{ranOf, wholeRun}
+use Rattle.run.specs.Numbers.{sizeOf}
+use Rattle.run.specs.declared.Group.{Group}
 use Rattle.text.specs.Lines.{errorLine}
-use Rattle.commands.specs.Lists.{headerLines, highest, lastLine, listErr, numberLines, recordLine, room, textLimit}
+use Rattle.commands.specs.Lists.{headerLines, highest, listErr, numberLines, ranLine, recordLine, room, textLimit}
 
 -- so many records stand in a part
 abbrev pub chunk : ℕ
@@ -25,8 +27,8 @@ unfoldable pub onlyIn : ℕ → ℕ → List (List ℕ) → List (List ℕ)
 onlyIn k p ls = cond (eqb p k) ls []
 
 -- part p of the lines of records and of a last line
-unfoldable pub partLines : ℕ → List Token → List ℕ → List (List ℕ)
-partLines p ts last = map recordLine (take chunk (drop (chunk * p) ts)) ++ onlyIn (lastPart ts) p (last ∷ [])
+unfoldable pub partLines : Group → ℕ → List Token → List ℕ → List (List ℕ)
+partLines g p ts last = map (recordLine g) (take chunk (drop (chunk * p) ts)) ++ onlyIn (lastPart ts) p (last ∷ [])
 
 -- the parts before part k, one after another
 unfoldable pub firstParts : ℕ → (ℕ → List (List ℕ)) → List (List ℕ)
@@ -37,18 +39,18 @@ firstParts (suc k) part = firstParts k part ++ part k
 abbrev pub runTokens : List ℕ → List Token
 runTokens s = wholeRun s 0 highest room startState .tokens
 
-abbrev pub runLast : List ℕ → List ℕ
-runLast s = lastLine (ranOf s 0 highest room startState .how) (ranOf s 0 highest room startState .advances)
+abbrev pub runLast : Group → List ℕ → List ℕ
+runLast g s = ranLine g (ranOf s 0 highest room startState)
 
 -- a text that is too long has no records
 unfoldable pub listTokens : List ℕ → List Token
 listTokens s = cond (ltb textLimit (length s)) [] (runTokens s)
 
-unfoldable pub listLast : List ℕ → List ℕ
-listLast s = cond (ltb textLimit (length s)) (errorLine (codeNumber TooLong) 0 0) (runLast s)
+unfoldable pub listLast : Group → List ℕ → List ℕ
+listLast g s = cond (ltb textLimit (length s)) (errorLine (codeNumber TooLong) 0 0) (runLast g s)
 
-unfoldable pub listPart : ℕ → Bool → List ℕ → List ℕ → List (List ℕ)
-listPart p headed name s = onlyIn 0 p (headerLines headed name) ++ partLines p (listTokens s) (listLast s)
+unfoldable pub listPart : Group → ℕ → Bool → List ℕ → List ℕ → List (List ℕ)
+listPart g p headed name s = onlyIn 0 p (headerLines headed name) ++ partLines g p (listTokens s) (listLast g s)
 
 -- for people, in the last part
 unfoldable pub listPartErr : ℕ → List ℕ → List ℕ → List (List ℕ)
@@ -58,10 +60,10 @@ listPartErr p name s = onlyIn (lastPart (listTokens s)) p (listErr name s)
 unfoldable pub listMore : ℕ → List ℕ → Bool
 listMore p s = ltb p (lastPart (listTokens s))
 
--- ---- a part of n records as the code has them: groups of five numbers
-unfoldable pub chunkLines : ℕ → ℕ → List ℕ → List (List ℕ)
-chunkLines p n l = numberLines (cond (ltb chunk (n - chunk * p)) chunk (n - chunk * p)) (drop (5 * (chunk * p)) l)
+-- ---- a part of n records as the code has them: groups of numbers
+unfoldable pub chunkLines : Group → ℕ → ℕ → List ℕ → List (List ℕ)
+chunkLines g p n l = numberLines g (cond (ltb chunk (n - chunk * p)) chunk (n - chunk * p)) (drop (sizeOf g * (chunk * p)) l)
 
 -- none where there are fewer numbers than the records take
-unfoldable pub heldLines : ℕ → ℕ → List ℕ → List (List ℕ)
-heldLines p n l = cond (ltb (length l / 5) n) [] (chunkLines p n l)
+unfoldable pub heldLines : Group → ℕ → ℕ → List ℕ → List (List ℕ)
+heldLines g p n l = cond (ltb (length l / sizeOf g) n) [] (chunkLines g p n l)

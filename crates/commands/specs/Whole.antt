@@ -11,13 +11,14 @@ use lib.Seq.{take-add, take-all}
 use Rattle.record.specs.Numbers.{codeNumber}
 use Rattle.record.specs.declared.Code.the-variants.{TooLong}
 use Rattle.record.specs.declared.Token.{Token}
+use Rattle.run.specs.declared.Group.{Group}
 use Rattle.text.specs.Lines.{errorLine}
 use Rattle.commands.specs.Lists.{headerLines, listOut, listing, recordLine, runLines, textLimit}
 use Rattle.commands.specs.Parts.{chunk, firstParts, lastPart, listLast, listPart, listTokens, onlyIn, partLines, runLast, runTokens}
 
-map-append : (ts us : List Token) → map recordLine (ts ++ us) ≡ map recordLine ts ++ map recordLine us
-map-append [] us = refl
-map-append (t ∷ ts) us = ap (λ (ls : List (List ℕ)). recordLine t ∷ ls) (map-append ts us)
+map-append : (g : Group) (ts us : List Token) → map (recordLine g) (ts ++ us) ≡ map (recordLine g) ts ++ map (recordLine g) us
+map-append g [] us = refl
+map-append g (t ∷ ts) us = ap (λ (ls : List (List ℕ)). recordLine g t ∷ ls) (map-append g ts us)
 
 only-not : (k p : ℕ) (ls : List (List ℕ)) → p < k → onlyIn k p ls ≡ []
 unfolding onlyIn
@@ -31,27 +32,27 @@ only-here : (p : ℕ) (ls : List (List ℕ)) → onlyIn p p ls ≡ ls
 unfolding onlyIn
 only-here p ls = rw (eq-eqb p p refl)
 
-module _ (head : List (List ℕ)) (ts : List Token) (last : List ℕ) where
+module _ (g : Group) (head : List (List ℕ)) (ts : List Token) (last : List ℕ) where
   abbrev part : ℕ → List (List ℕ)
-  part p = onlyIn 0 p head ++ partLines p ts last
+  part p = onlyIn 0 p head ++ partLines g p ts last
 
   abbrev tail : ℕ → List (List ℕ)
   tail p = onlyIn (lastPart ts) p (last ∷ [])
 
-  next : (n : ℕ) → map recordLine (take (n + chunk) ts) ≡ map recordLine (take n ts) ++ map recordLine (take chunk (drop n ts))
-  next n = ap (map recordLine) (take-add n chunk ts) ∙ map-append (take n ts) (take chunk (drop n ts))
+  next : (n : ℕ) → map (recordLine g) (take (n + chunk) ts) ≡ map (recordLine g) (take n ts) ++ map (recordLine g) (take chunk (drop n ts))
+  next n = ap (map (recordLine g)) (take-add n chunk ts) ∙ map-append g (take n ts) (take chunk (drop n ts))
 
-  front : (k : ℕ) → k ≤ lastPart ts → firstParts (suc k) part ≡ head ++ (map recordLine (take (chunk * suc k) ts) ++ tail k)
+  front : (k : ℕ) → k ≤ lastPart ts → firstParts (suc k) part ≡ head ++ (map (recordLine g) (take (chunk * suc k) ts) ++ tail k)
   unfolding firstParts onlyIn partLines
   front zero h = refl
   front (suc k) h =
       let n = chunk * suc k in
-      let a = map recordLine (take n ts) in
-      let b = map recordLine (take chunk (drop n ts)) in
+      let a = map (recordLine g) (take n ts) in
+      let b = map (recordLine g) (take chunk (drop n ts)) in
       let l = tail (suc k) in
       let e : chunk * suc (suc k) ≡ n + chunk = omega arith in
       let i = front k (omega (arith, h)) ∙ ap (λ (ls : List (List ℕ)). head ++ (a ++ ls)) (only-not (lastPart ts) k (last ∷ []) (omega (arith, h))) ∙ ap (λ (ls : List (List ℕ)). head ++ ls) (append-nil a) in
-      let j = ap (λ (m : ℕ). map recordLine (take m ts)) e ∙ next n in
+      let j = ap (λ (m : ℕ). map (recordLine g) (take m ts)) e ∙ next n in
       ap (λ (ls : List (List ℕ)). firstParts (suc k) part ++ (ls ++ (b ++ l))) (only-after k head)
       ∙ ap (λ (ls : List (List ℕ)). ls ++ (b ++ l)) i
       ∙ append-assoc head a (b ++ l)
@@ -59,21 +60,21 @@ module _ (head : List (List ℕ)) (ts : List Token) (last : List ℕ) where
       ∙ ap (λ (ls : List (List ℕ)). head ++ (ls ++ l)) (sym j)
 
   -- a head, the records and a last line
-  pub all-parts : firstParts (suc (lastPart ts)) part ≡ head ++ (map recordLine ts ++ (last ∷ []))
+  pub all-parts : firstParts (suc (lastPart ts)) part ≡ head ++ (map (recordLine g) ts ++ (last ∷ []))
   all-parts =
       front (lastPart ts) (omega arith)
-      ∙ ap (λ (us : List Token). head ++ (map recordLine us ++ tail (lastPart ts))) (take-all (chunk * suc (lastPart ts)) ts (omega arith))
-      ∙ ap (λ (ls : List (List ℕ)). head ++ (map recordLine ts ++ ls)) (only-here (lastPart ts) (last ∷ []))
+      ∙ ap (λ (us : List Token). head ++ (map (recordLine g) us ++ tail (lastPart ts))) (take-all (chunk * suc (lastPart ts)) ts (omega arith))
+      ∙ ap (λ (ls : List (List ℕ)). head ++ (map (recordLine g) ts ++ ls)) (only-here (lastPart ts) (last ∷ []))
 
-list-whole : (s : List ℕ) → map recordLine (listTokens s) ++ (listLast s ∷ []) ≡ listing s
+list-whole : (g : Group) (s : List ℕ) → map (recordLine g) (listTokens s) ++ (listLast g s ∷ []) ≡ listing g s
 unfolding listLast listTokens listing runLines
-list-whole s = go (ltb textLimit (length s))
+list-whole g s = go (ltb textLimit (length s))
   where
-    go : (b : Bool) → map recordLine (cond b [] (runTokens s)) ++ (cond b (errorLine (codeNumber TooLong) 0 0) (runLast s) ∷ []) ≡ cond b (errorLine (codeNumber TooLong) 0 0 ∷ []) (map recordLine (runTokens s) ++ (runLast s ∷ []))
+    go : (b : Bool) → map (recordLine g) (cond b [] (runTokens s)) ++ (cond b (errorLine (codeNumber TooLong) 0 0) (runLast g s) ∷ []) ≡ cond b (errorLine (codeNumber TooLong) 0 0 ∷ []) (map (recordLine g) (runTokens s) ++ (runLast g s ∷ []))
     go true = refl
     go false = refl
 
 -- THE THEOREM for `list`
-pub listing-parts : (headed : Bool) (name s : List ℕ) → firstParts (suc (lastPart (listTokens s))) (λ p. listPart p headed name s) ≡ listOut headed name s
+pub listing-parts : (g : Group) (headed : Bool) (name s : List ℕ) → firstParts (suc (lastPart (listTokens s))) (λ p. listPart g p headed name s) ≡ listOut g headed name s
 unfolding listOut listPart
-listing-parts headed name s = all-parts (headerLines headed name) (listTokens s) (listLast s) ∙ ap (λ (ls : List (List ℕ)). headerLines headed name ++ ls) (list-whole s)
+listing-parts g headed name s = all-parts g (headerLines headed name) (listTokens s) (listLast g s) ∙ ap (λ (ls : List (List ℕ)). headerLines headed name ++ ls) (list-whole g s)

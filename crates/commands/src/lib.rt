@@ -3,17 +3,21 @@
 use reading::Outcome;
 use record::Code;
 use record::Refusal;
+use run::Group;
+use run::Ran;
 use text::Came;
 ghost use mathlib.Core.Path.{_≡_};
-ghost use Prim.Native.Nat.{_*_, _≤_};
-ghost use lib.ListN.{length};
+ghost use Prim.Native.Nat.{_+_, _*_, _≤_, _<_};
+ghost use lib.ListN.{drop, length};
 ghost use lib.Dec.{ltb};
 ghost use Rattle.record.specs.Numbers.{codeNumber};
+ghost use Rattle.record.specs.Records.{over};
 ghost use Rattle.text.specs.Lay.{lay, layAll};
 ghost use Rattle.text.specs.declared.Came.the-variants.{To};
 ghost use Rattle.reading.specs.Answers.{startState};
 ghost use Rattle.run.specs.Checked.{ranOf};
-ghost use Rattle.commands.specs.Lists.{Left, headerLines, highest, lastLine, limitLines, numberLines, peopleLines, refusedLines, room};
+ghost use Rattle.run.specs.Numbers.{groups, sizeOf};
+ghost use Rattle.commands.specs.Lists.{Left, finalLine, headerLines, highest, limitLines, numberLine, numberLines, peopleLines, ranLine, refusedLines, room};
 ghost use Rattle.commands.specs.Parts.{chunkLines, heldLines, lastPart, listMore, listPart, listPartErr, onlyIn, partLines, runLast, runTokens};
 
 // 01: "reads standard input up to 32,768 bytes"
@@ -38,66 +42,120 @@ pub fn number_of(code: Code) -> u64
     record::code_number(code) as u64
 }
 
-// Room for the records of every text: a token takes at least one byte.
-fn blank() -> [u64; 163840]
-    ensures { λ r. ⌜ 163840 ≡ length r ⌝ }
+// Room for the records of every text, of either size: a token takes at least one byte.
+fn blank() -> [u64; 294912]
+    ensures { λ r. ⌜ 294912 ≡ length r ⌝ }
 {
-    [0; 163840]
+    [0; 294912]
 }
 
-// The lines of count records, each a group of five numbers.
-fn records_onto(out: &mut [u8], from: Came, records: &[u64], count: usize) -> Came
-    requires { ⌜ 5 * count ≤ length (now records) ⌝ }
-    ensures { λ r. ⌜ (r ≡ layAll (now (out .entry)) from (numberLines count (now (records .entry))) .to) × (now (out .exit) ≡ layAll (now (out .entry)) from (numberLines count (now (records .entry))) .held) ⌝ }
+// How many numbers a record takes.
+fn size_of(group: Group) -> usize
+    ensures { λ r. ⌜ (r ≡ sizeOf group) × (0 < r) × (r ≤ 9) ⌝ }
 {
+    match group {
+        Group::Five => 5,
+        Group::Nine => 9,
+    }
+}
+
+// The line of the record whose numbers stand from p on: of five 01's, of nine with the depths.
+fn record_onto(out: &mut [u8], from: Came, records: &[u64], group: Group, p: usize) -> Came
+    requires { ⌜ p + sizeOf group ≤ length (now records) ⌝ }
+    ensures { λ r. ⌜ (r ≡ lay (now (out .entry)) from (numberLine group (drop p (now (records .entry)))) .to) × (now (out .exit) ≡ lay (now (out .entry)) from (numberLine group (drop p (now (records .entry)))) .held) ⌝ }
+{
+    match group {
+        Group::Five => text::token_line(out, from, records[p], records[p + 1], records[p + 2]),
+        Group::Nine => text::depth_line(
+            out,
+            from,
+            records[p],
+            records[p + 1],
+            records[p + 2],
+            records[p + 5],
+            records[p + 6],
+        ),
+    }
+}
+
+// The lines of count records, each a group of numbers.
+fn records_onto(out: &mut [u8], from: Came, records: &[u64], group: Group, count: usize) -> Came
+    requires { ⌜ sizeOf group * count ≤ length (now records) ⌝ }
+    ensures { λ r. ⌜ (r ≡ layAll (now (out .entry)) from (numberLines group count (now (records .entry))) .to) × (now (out .exit) ≡ layAll (now (out .entry)) from (numberLines group count (now (records .entry))) .held) ⌝ }
+{
+    let size = size_of(group);
     let mut came = from;
     let mut i: usize = 0;
     while i < count {
-        let p = 5 * i;
-        came = text::token_line(out, came, records[p], records[p + 1], records[p + 2]);
+        came = record_onto(out, came, records, group, size * i);
         i += 1;
     }
     came
 }
 
 // The lines of a part's records, of count.
-fn chunk_onto(out: &mut [u8], from: Came, records: &[u64], count: usize, part: usize) -> Came
-    requires { ⌜ 5 * count ≤ length (now records) ⌝ }
-    ensures { λ r. ⌜ (r ≡ layAll (now (out .entry)) from (chunkLines part count (now (records .entry))) .to) × (now (out .exit) ≡ layAll (now (out .entry)) from (chunkLines part count (now (records .entry))) .held) ⌝ }
+fn chunk_onto(
+    out: &mut [u8],
+    from: Came,
+    records: &[u64],
+    group: Group,
+    count: usize,
+    part: usize,
+) -> Came
+    requires { ⌜ sizeOf group * count ≤ length (now records) ⌝ }
+    ensures { λ r. ⌜ (r ≡ layAll (now (out .entry)) from (chunkLines group part count (now (records .entry))) .to) × (now (out .exit) ≡ layAll (now (out .entry)) from (chunkLines group part count (now (records .entry))) .held) ⌝ }
 {
     if count / CHUNK < part {
         return from;
     }
     let first = CHUNK * part;
     let left = count - first;
-    let start = 5 * first;
+    let start = size_of(group) * first;
     if CHUNK < left {
-        return records_onto(out, from, &records[start..], CHUNK);
+        return records_onto(out, from, &records[start..], group, CHUNK);
     }
-    records_onto(out, from, &records[start..], left)
+    records_onto(out, from, &records[start..], group, left)
 }
 
 // The same for numbers that a caller has: no lines where there are fewer than the records take.
-pub fn part_onto(out: &mut [u8], from: Came, records: &[u64], count: usize, part: usize) -> Came
-    ensures { λ r. ⌜ (r ≡ layAll (now (out .entry)) from (heldLines part count (now (records .entry))) .to) × (now (out .exit) ≡ layAll (now (out .entry)) from (heldLines part count (now (records .entry))) .held) ⌝ }
+pub fn part_onto(
+    out: &mut [u8],
+    from: Came,
+    records: &[u64],
+    group: Group,
+    count: usize,
+    part: usize,
+) -> Came
+    ensures { λ r. ⌜ (r ≡ layAll (now (out .entry)) from (heldLines group part count (now (records .entry))) .to) × (now (out .exit) ≡ layAll (now (out .entry)) from (heldLines group part count (now (records .entry))) .held) ⌝ }
 {
-    if records.len() / 5 < count {
+    if records.len() / size_of(group) < count {
         return from;
     }
-    chunk_onto(out, from, records, count, part)
+    chunk_onto(out, from, records, group, count, part)
+}
+
+// The last line of a listing that reached the end.
+fn final_onto(out: &mut [u8], from: Came, group: Group, advances: u64, depth: u64) -> Came
+    ensures { λ r. ⌜ (r ≡ lay (now (out .entry)) from (finalLine group advances depth) .to) × (now (out .exit) ≡ lay (now (out .entry)) from (finalLine group advances depth) .held) ⌝ }
+{
+    match group {
+        Group::Five => text::end_line(out, from, advances),
+        Group::Nine => text::end_depth_line(out, from, advances, depth),
+    }
 }
 
 // The last line of a listing.
-fn last_onto(out: &mut [u8], from: Came, how: Outcome, advances: u64) -> Came
-    ensures { λ r. ⌜ (r ≡ lay (now (out .entry)) from (lastLine how advances) .to) × (now (out .exit) ≡ lay (now (out .entry)) from (lastLine how advances) .held) ⌝ }
+fn last_onto(out: &mut [u8], from: Came, group: Group, ran: Ran) -> Came
+    ensures { λ r. ⌜ (r ≡ lay (now (out .entry)) from (ranLine group ran) .to) × (now (out .exit) ≡ lay (now (out .entry)) from (ranLine group ran) .held) ⌝ }
 {
+    let how = ran.how;
     match how {
         Outcome::Refused(r) => {
             let code = r.code;
-            text::error_line(out, from, number_of(code), r.place, advances)
+            text::error_line(out, from, number_of(code), r.place, ran.advances)
         }
-        Outcome::Ended => text::end_line(out, from, advances),
-        Outcome::Running => text::end_line(out, from, advances),
+        Outcome::Ended => final_onto(out, from, group, ran.advances, ran.last_depth),
+        Outcome::Running => final_onto(out, from, group, ran.advances, ran.last_depth),
     }
 }
 
@@ -140,24 +198,36 @@ pub fn header_onto(out: &mut [u8], from: Came, headed: bool, name: &[u8]) -> Cam
     from
 }
 
+// A text's records as groups of numbers; those of five are copied from a local list, as they were before there were others.
+fn records_of(text: &[u8], records: &mut [u64], group: Group) -> Ran
+    requires { ⌜ 294912 ≡ length (now records) ⌝ }
+    ensures { λ r. ⌜ (r ≡ ranOf (now (text .entry)) 0 highest room startState) × (now (records .exit) ≡ over (groups group (runTokens (now (text .entry)))) (now (records .entry))) ⌝ }
+{
+    match group {
+        Group::Five => lent::run_listed(text, 0, HIGHEST, records, tok::start()),
+        Group::Nine => run::read_numbers(text, 0, HIGHEST, records, tok::start()),
+    }
+}
+
 // A part of a text's listing, for a text that is not too long.
 fn run_onto(
     part: usize,
+    group: Group,
     out: &mut [u8],
     from: Came,
     err: &mut [u8],
     name: &[u8],
     text: &[u8],
 ) -> Said
-    ensures { λ r. ⌜ Left (layAll (now (out .entry)) from (partLines part (runTokens (now (text .entry))) (runLast (now (text .entry))))) (layAll (now (err .entry)) (To 0) (onlyIn (lastPart (runTokens (now (text .entry)))) part (peopleLines (now (name .entry)) (now (text .entry)) (ranOf (now (text .entry)) 0 highest room startState .how)))) (r .out) (now (out .exit)) (r .err) (now (err .exit)) × (r .more ≡ ltb part (lastPart (runTokens (now (text .entry))))) ⌝ }
+    ensures { λ r. ⌜ Left (layAll (now (out .entry)) from (partLines group part (runTokens (now (text .entry))) (runLast group (now (text .entry))))) (layAll (now (err .entry)) (To 0) (onlyIn (lastPart (runTokens (now (text .entry)))) part (peopleLines (now (name .entry)) (now (text .entry)) (ranOf (now (text .entry)) 0 highest room startState .how)))) (r .out) (now (out .exit)) (r .err) (now (err .exit)) × (r .more ≡ ltb part (lastPart (runTokens (now (text .entry))))) ⌝ }
 {
     let mut records = blank();
-    let ran = lent::run_listed(text, 0, HIGHEST, &mut records, tok::start());
+    let ran = records_of(text, &mut records, group);
     let how = ran.how;
     let last = ran.stored / CHUNK;
-    let lines = chunk_onto(out, from, &records, ran.stored, part);
+    let lines = chunk_onto(out, from, &records, group, ran.stored, part);
     if part == last {
-        let end = last_onto(out, lines, how, ran.advances);
+        let end = last_onto(out, lines, group, ran);
         let people = people_onto(err, Came::To(0), name, text, how);
         return Said {
             out: end,
@@ -172,16 +242,17 @@ fn run_onto(
     }
 }
 
-// The command `list`: a part of 01's listing of a text, under its name where several are listed.
+// The command `list`: a part of a text's listing, under its name where several are listed; of five numbers 01's, of nine with the depths.
 pub fn list(
     part: usize,
+    group: Group,
     headed: bool,
     name: &[u8],
     text: &[u8],
     out: &mut [u8],
     err: &mut [u8],
 ) -> Said
-    ensures { λ r. ⌜ Left (layAll (now (out .entry)) (To 0) (listPart part headed (now (name .entry)) (now (text .entry)))) (layAll (now (err .entry)) (To 0) (listPartErr part (now (name .entry)) (now (text .entry)))) (r .out) (now (out .exit)) (r .err) (now (err .exit)) × (r .more ≡ listMore part (now (text .entry))) ⌝ }
+    ensures { λ r. ⌜ Left (layAll (now (out .entry)) (To 0) (listPart group part headed (now (name .entry)) (now (text .entry)))) (layAll (now (err .entry)) (To 0) (listPartErr part (now (name .entry)) (now (text .entry)))) (r .out) (now (out .exit)) (r .err) (now (err .exit)) × (r .more ≡ listMore part (now (text .entry))) ⌝ }
 {
     let head = header_onto(out, Came::To(0), headed & (part == 0), name);
     if TEXT_LIMIT < text.len() {
@@ -200,5 +271,5 @@ pub fn list(
             more: false,
         };
     }
-    run_onto(part, out, head, err, name, text)
+    run_onto(part, group, out, head, err, name, text)
 }

@@ -13,6 +13,7 @@ use Rattle.reading.specs.Answers.{startState}
 use Rattle.reading.specs.declared.Outcome.{Outcome}
 use Rattle.reading.specs.declared.Outcome.the-variants.{Ended, Refused, Running}
 use Rattle.run.specs.Checked.{ranOf, wholeRun}
+use Rattle.run.specs.declared.Group.the-variants.{Five}
 use Rattle.ltk.specs.Ltk.{entryOf, readAnswer, readTokens, writeAnswer, writtenBytes}
 use Rattle.ltk.specs.declared.Answer.{Answer}
 use Rattle.ltk.specs.declared.Answer.the-variants.{Done, Refused as Not}
@@ -75,7 +76,7 @@ abbrev pub fileLimit : ℕ
 fileLimit = 294921
 
 abbrev pub readLines : Answer → List Token → List (List ℕ)
-readLines (Done n) ts = map recordLine ts ++ (recordsLine n ∷ [])
+readLines (Done n) ts = map (recordLine Five) ts ++ (recordsLine n ∷ [])
 readLines (Not r) ts = refusalLine (codeNumber (r .code)) (r .place) ∷ []
 
 unfoldable pub fileListing : List ℕ → List (List ℕ)
@@ -101,7 +102,7 @@ unfoldable pub unpackLast : List ℕ → List ℕ
 unpackLast file = cond (ltb fileLimit (length file)) (refusalLine (codeNumber TooLong) 0) (fileLast (readAnswer file room))
 
 unfoldable pub unpackPart : ℕ → Bool → List ℕ → List ℕ → List (List ℕ)
-unpackPart p headed name file = onlyIn 0 p (headerLines headed name) ++ partLines p (unpackTokens file) (unpackLast file)
+unpackPart p headed name file = onlyIn 0 p (headerLines headed name) ++ partLines Five p (unpackTokens file) (unpackLast file)
 
 unfoldable pub unpackPartErr : ℕ → List ℕ → List ℕ → List (List ℕ)
 unpackPartErr p name file = onlyIn (lastPart (unpackTokens file)) p (unpackErr name file)

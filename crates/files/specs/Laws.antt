@@ -23,6 +23,7 @@ use Rattle.reading.specs.declared.Tokenizer.{Tokenizer}
 use Rattle.run.specs.Checked.{ranOf, ranWith, wholeRun}
 use Rattle.run.specs.declared.Ran.{Ran}
 use Rattle.run.specs.Numbers.{numbersAll}
+use Rattle.run.specs.declared.Group.the-variants.{Five}
 use Rattle.lent.specs.Copies.{fitted}
 use Rattle.ltk.specs.Faithful.{room-read}
 use Rattle.ltk.specs.Ltk.{delivered, entriesIn, entryOf, fileCheck, readAnswer, readTokens, writeAnswer, writtenBytes}
@@ -62,7 +63,7 @@ module _ (s old recs : List ℕ) (t : Tokenizer) (ran : Ran) (start : t ≡ star
       → Left (packOut s d) (packErr name s (length d) f) (To 0) d p y
   unfolding packErr packOut
   pack-refused r p y e k =
-      let h = sym (how-is s old recs t ran start is stored wide) ∙ e in
+      let h = sym (how-is s t ran start is) ∙ e in
       rw (le-ltb textLimit (length s) short, h) (record { out-to = refl; out-held = refl; err-to = k .0; err-held = k .1 })
 
   pub entries-of : entriesIn (take (5 * ran .stored) recs) ≡ map entryOf (wholeRun s 0 highest room startState .tokens)
@@ -72,7 +73,7 @@ module _ (s old recs : List ℕ) (t : Tokenizer) (ran : Ran) (start : t ≡ star
       let whole = is ∙ ap (ranOf s 0 highest room) start in
       let c : ran .stored ≡ length ts = ap (λ (r : Ran). r .stored) whole in
       let l = tokens-room s 0 highest room startState in
-      let n = numbers-length ts in
+      let n = numbers-length Five ts in
       let m : 5 * ran .stored ≡ length (numbersAll ts) = omega (arith, c, n) in
       let q : recs ≡ over (numbersAll ts) old = stored ∙ ap (λ (u : Tokenizer). fitted (numbersAll (wholeRun s 0 highest room u .tokens)) old) start ∙ fits ts old (omega (arith, l, wide)) in
       ap (λ (k : ℕ). entriesIn (take k recs)) m ∙ ap (λ (x : List ℕ). entriesIn (take (length (numbersAll ts)) x)) q
@@ -83,10 +84,10 @@ module _ (s old recs : List ℕ) (t : Tokenizer) (ran : Ran) (start : t ≡ star
       → Left (packOut s d) (packErr name s (length d) f) r x p y
   unfolding packErr packOut
   pack-ended Ended r x p y e o k =
-      let h = sym (how-is s old recs t ran start is stored wide) ∙ e in
+      let h = sym (how-is s t ran start is) ∙ e in
       rw (le-ltb textLimit (length s) short, h) (rw entries-of at k)
   pack-ended Running r x p y e o k =
-      let h = sym (how-is s old recs t ran start is stored wide) ∙ e in
+      let h = sym (how-is s t ran start is) ∙ e in
       rw (le-ltb textLimit (length s) short, h) (rw entries-of at k)
   pack-ended (Refused z) r x p y e o k = absurd o
 
@@ -100,6 +101,9 @@ read-few file k n a e d =
     let h : readAnswer file k ≡ Done n = sym e ∙ d in
     rw h at (read-room file k)
 
+pub wide : (l : List ℕ) → 163840 ≡ length l → 163840 ≤ length l
+wide l e = omega (arith, e)
+
 pub long-held : (old recs : List ℕ) → length recs ≡ length old → 163840 ≡ length old → 163840 ≤ length recs
 long-held old recs e h = omega (arith, e, h)
 
@@ -109,47 +113,47 @@ module _ (file old recs : List ℕ) (a : Answer) (is : a ≡ readAnswer file roo
     read-count : n ≡ length (readTokens file room)
     read-count = sym (read-length file room ∙ ap delivered (sym is ∙ done))
 
-    read-chunk : heldLines p n recs ≡ map recordLine (take chunk (drop (chunk * p) (readTokens file room)))
+    read-chunk : heldLines Five p n recs ≡ map (recordLine Five) (take chunk (drop (chunk * p) (readTokens file room)))
     read-chunk =
         let l = read-count in
         let m = read-few file room n a is done in
-        held-all p n recs (omega (arith, m, held)) ∙ chunk-are p (readTokens file room) old recs n (omega (arith, l, m, wide)) stored l
+        held-all Five p n recs (omega (arith, m, held)) ∙ chunk-are Five p (readTokens file room) old recs n (stored ∙ fits (readTokens file room) old (omega (arith, l, m, wide))) l
 
-    pub read-end : (c : Came) (e : List ℕ) (r : Came) (x : List ℕ) → p ≡ n / chunk → Is (layAll d from (heldLines p n recs)) c e → Is (lay e c (recordsLine n)) r x
-        → SaidFrom p (readTokens file room) (fileLast (readAnswer file room)) (readErr name (readAnswer file room)) d from f r x (To 0) f false
+    pub read-end : (c : Came) (e : List ℕ) (r : Came) (x : List ℕ) → p ≡ n / chunk → Is (layAll d from (heldLines Five p n recs)) c e → Is (lay e c (recordsLine n)) r x
+        → SaidFrom Five p (readTokens file room) (fileLast (readAnswer file room)) (readErr name (readAnswer file room)) d from f r x (To 0) f false
     unfolding layAll
     read-end c e r x h k g =
         let t : readAnswer file room ≡ Done n = sym is ∙ done in
-        rw t (end-part p (readTokens file room) (recordsLine n) [] d from f n c e r x (To 0) f read-count h (rw read-chunk at k) g (refl, refl))
+        rw t (end-part Five p (readTokens file room) (recordsLine n) [] d from f n c e r x (To 0) f read-count h (rw read-chunk at k) g (refl, refl))
 
-    pub read-mid : (r : Came) (x : List ℕ) → (p ≡ n / chunk → ⊥) → Is (layAll d from (heldLines p n recs)) r x
-        → SaidFrom p (readTokens file room) (fileLast (readAnswer file room)) (readErr name (readAnswer file room)) d from f r x (To 0) f (ltb p (n / chunk))
-    read-mid r x h k = mid-part p (readTokens file room) (fileLast (readAnswer file room)) (readErr name (readAnswer file room)) d from f n r x read-count h (rw read-chunk at k)
+    pub read-mid : (r : Came) (x : List ℕ) → (p ≡ n / chunk → ⊥) → Is (layAll d from (heldLines Five p n recs)) r x
+        → SaidFrom Five p (readTokens file room) (fileLast (readAnswer file room)) (readErr name (readAnswer file room)) d from f r x (To 0) f (ltb p (n / chunk))
+    read-mid r x h k = mid-part Five p (readTokens file room) (fileLast (readAnswer file room)) (readErr name (readAnswer file room)) d from f n r x read-count h (rw read-chunk at k)
 
 module _ (file : List ℕ) (a : Answer) (is : a ≡ readAnswer file room) (p : ℕ) (name d : List ℕ) (from : Came) (f : List ℕ) (z : Refusal) (not : a ≡ Not z) where
   read-none : readTokens file room ≡ []
   read-none = none (readTokens file room) (read-length file room ∙ ap delivered (sym is ∙ not))
 
   pub read-not : (r : Came) (x : List ℕ) (q : Came) (y : List ℕ) → p ≡ 0 → Is (lay d from (refusalLine (codeNumber (z .code)) (z .place))) r x → Is (layAll f (To 0) (fileLines name z)) q y
-      → SaidFrom p (readTokens file room) (fileLast (readAnswer file room)) (readErr name (readAnswer file room)) d from f r x q y false
+      → SaidFrom Five p (readTokens file room) (fileLast (readAnswer file room)) (readErr name (readAnswer file room)) d from f r x q y false
   read-not r x q y h k g =
       let t : readAnswer file room ≡ Not z = sym is ∙ not in
-      rw t (only-part p (readTokens file room) (refusalLine (codeNumber (z .code)) (z .place)) (fileLines name z) d from f r x q y read-none h k g)
+      rw t (only-part Five p (readTokens file room) (refusalLine (codeNumber (z .code)) (z .place)) (fileLines name z) d from f r x q y read-none h k g)
 
-  pub read-after : (p ≡ 0 → ⊥) → SaidFrom p (readTokens file room) (fileLast (readAnswer file room)) (readErr name (readAnswer file room)) d from f from d (To 0) f false
-  read-after h = no-part p (readTokens file room) (fileLast (readAnswer file room)) (readErr name (readAnswer file room)) d from f read-none h
+  pub read-after : (p ≡ 0 → ⊥) → SaidFrom Five p (readTokens file room) (fileLast (readAnswer file room)) (readErr name (readAnswer file room)) d from f from d (To 0) f false
+  read-after h = no-part Five p (readTokens file room) (fileLast (readAnswer file room)) (readErr name (readAnswer file room)) d from f read-none h
 
 module _ (headed : Bool) (name s : List ℕ) (p : ℕ) (d : List ℕ) (c : Came) (e f : List ℕ) (r : Came) (x : List ℕ) (q : Came) (y : List ℕ) (m : Bool)
     (h : Is (layAll d (To 0) (headerLines (headed && eqb p 0) name)) c e) where
-  pub unpack-long : fileLimit < length s → SaidFrom p [] (refusalLine (codeNumber TooLong) 0) (limitLines name fileLimit) e c f r x q y m
+  pub unpack-long : fileLimit < length s → SaidFrom Five p [] (refusalLine (codeNumber TooLong) 0) (limitLines name fileLimit) e c f r x q y m
       → Left (layAll d (To 0) (unpackPart p headed name s)) (layAll f (To 0) (unpackPartErr p name s)) r x q y × (m ≡ unpackMore p s)
   unfolding unpackErr unpackLast unpackMore unpackPart unpackPartErr unpackTokens
-  unpack-long l k = rw (lt-ltb fileLimit (length s) l) (head-on headed name p [] (refusalLine (codeNumber TooLong) 0) (limitLines name fileLimit) d c e f r x q y m h k)
+  unpack-long l k = rw (lt-ltb fileLimit (length s) l) (head-on Five headed name p [] (refusalLine (codeNumber TooLong) 0) (limitLines name fileLimit) d c e f r x q y m h k)
 
-  pub unpack-read : length s ≤ fileLimit → SaidFrom p (readTokens s room) (fileLast (readAnswer s room)) (readErr name (readAnswer s room)) e c f r x q y m
+  pub unpack-read : length s ≤ fileLimit → SaidFrom Five p (readTokens s room) (fileLast (readAnswer s room)) (readErr name (readAnswer s room)) e c f r x q y m
       → Left (layAll d (To 0) (unpackPart p headed name s)) (layAll f (To 0) (unpackPartErr p name s)) r x q y × (m ≡ unpackMore p s)
   unfolding unpackErr unpackLast unpackMore unpackPart unpackPartErr unpackTokens
-  unpack-read l k = rw (le-ltb fileLimit (length s) l) (head-on headed name p (readTokens s room) (fileLast (readAnswer s room)) (readErr name (readAnswer s room)) d c e f r x q y m h k)
+  unpack-read l k = rw (le-ltb fileLimit (length s) l) (head-on Five headed name p (readTokens s room) (fileLast (readAnswer s room)) (readErr name (readAnswer s room)) d c e f r x q y m h k)
 
 -- no listing has more than five parts
 pub few-parts : (file : List ℕ) → lastPart (unpackTokens file) ≤ 4

@@ -4,12 +4,14 @@ use ltk::Answer;
 use reading::Outcome;
 use record::Code;
 use record::Refusal;
+use run::Group;
 use text::Came;
 ghost use mathlib.Core.Path.{_≡_};
 ghost use Prim.Native.Nat.{_*_, _≤_};
 ghost use lib.ListN.{length, take};
 ghost use lib.Dec.{ltb};
 ghost use mathlib.Core.Bool.{false};
+ghost use Rattle.run.specs.declared.Group.the-variants.{Five};
 ghost use Rattle.ltk.specs.Ltk.{entriesIn, readAnswer, readTokens};
 ghost use Rattle.text.specs.Lay.{layAll};
 ghost use Rattle.text.specs.declared.Came.the-variants.{To};
@@ -97,13 +99,13 @@ fn read_onto(
     name: &[u8],
     file: &[u8],
 ) -> Said
-    ensures { λ r. ⌜ Left (layAll (now (out .entry)) from (partLines part (readTokens (now (file .entry)) room) (fileLast (readAnswer (now (file .entry)) room)))) (layAll (now (err .entry)) (To 0) (onlyIn (lastPart (readTokens (now (file .entry)) room)) part (readErr (now (name .entry)) (readAnswer (now (file .entry)) room)))) (r .out) (now (out .exit)) (r .err) (now (err .exit)) × (r .more ≡ ltb part (lastPart (readTokens (now (file .entry)) room))) ⌝ }
+    ensures { λ r. ⌜ Left (layAll (now (out .entry)) from (partLines Five part (readTokens (now (file .entry)) room) (fileLast (readAnswer (now (file .entry)) room)))) (layAll (now (err .entry)) (To 0) (onlyIn (lastPart (readTokens (now (file .entry)) room)) part (readErr (now (name .entry)) (readAnswer (now (file .entry)) room)))) (r .out) (now (out .exit)) (r .err) (now (err .exit)) × (r .more ≡ ltb part (lastPart (readTokens (now (file .entry)) room))) ⌝ }
 {
     let mut records = blank();
     match lent::read_listed(file, &mut records) {
         Answer::Done(n) => {
             let last = n / commands::CHUNK;
-            let lines = commands::part_onto(out, from, &records, n, part);
+            let lines = commands::part_onto(out, from, &records, Group::Five, n, part);
             if part == last {
                 let end = text::records_line(out, lines, n as u64);
                 return Said {

@@ -29,9 +29,9 @@ use Rattle.scan.specs.declared.Sought.the-variants.{Backtick, Hashes, Quote, Wo
 use Rattle.scan.specs.declared.Turn.{Turn}
 use Rattle.scan.specs.declared.Turn.the-variants.{Fail, Pass, Stop}
 use Rattle.code.specs.Code.{bodySkip, codeEnd, codeLast, codeTurn, escPast, escSkip, hashPast, hashSkip, oneSkip, quoteEnd, quoteSkip, rSkip, slashSkip}
-use Rattle.reading.specs.Answers.{deliver, more, plain, refuse}
+use Rattle.reading.specs.Answers.{deliver, more, plain, refuse, told, toldToken, toldWhat}
 use Rattle.reading.specs.Attribute.{attempt, attributeToken, hash, hashBy}
-use Rattle.reading.specs.Gaps.{commentTurn, gap, gapLast, gapTurn}
+use Rattle.reading.specs.Gaps.{commentTurn, gap, gapDepth, gapLast, gapTurn}
 use Rattle.reading.specs.Next.{next, nextBy, starts, token, tokenOrEnd}
 use Rattle.reading.specs.Quotes.{charLiteral, escape, lifetimeBy, lifetimeish, stringLiteral, stringOrCharLiteral}
 use Rattle.reading.specs.Regex.{hashed, rWord, regexBy, regexLiteral, regexLiteralBy, regexToken}
@@ -265,17 +265,17 @@ module _ (P : Token → Type 0) (Q : Code → Type 0)
     unfolding among colon
     colon-says = search says
 
-    code-token-says : (kind : Kind) (x : Skip) → hasPayload kind ≡ true → isString kind ≡ false → Loses Q x → Says P Q (codeToken kind o at x)
-    code-token-says kind (Past p m) k s h = says-deliver kind o at p p m k s
-    code-token-says kind (Lost r p m) k s h = record { is = h .is }
+    code-token-says : (kind : Kind) (x : Skip) (d : ℕ) → hasPayload kind ≡ true → isString kind ≡ false → Loses Q x → Says P Q (codeToken kind o at x d)
+    code-token-says kind (Past p m) d k s h = record { is = says-deliver kind o at p p m k s .is }
+    code-token-says kind (Lost r p m) d k s h = record { is = h .is }
 
     pub arrow-code-says : (kind : Kind) → hasPayload kind ≡ true → isString kind ≡ false → Says P Q (arrowCode kind o cs at)
     unfolding arrowCode
-    arrow-code-says kind k s = code-token-says kind _ k s (code-loses o cs at)
+    arrow-code-says kind k s = code-token-says kind _ _ k s (code-loses o cs at)
 
     use-says : Says P Q (useToken o cs at)
     unfolding among useToken
-    use-says = code-token-says _ _ refl refl (code-loses o cs at)
+    use-says = code-token-says _ _ _ refl refl (code-loses o cs at)
 
     id-says : Says P Q (idToken o cs at)
     unfolding among idToken
@@ -438,11 +438,22 @@ module _ (P : Token → Type 0) (Q : Code → Type 0)
       token-says o [] = record { is = tt }
       token-says o (c ∷ cs) = first-says o c cs (λ e. string-says strings o cs (o + widthOf c))
 
-      -- THE LAW, of every call
-      pub next-says : (cs : List ℕ) (at : ℕ) → Says P Q (next cs at)
-      unfolding next
-      next-says cs at = go (gap cs at) (gap-loses cs at)
-        where
-          go : (x : Skip) → Loses Q x → Says P Q (nextBy cs x)
-          go (Past p m) h = says-more m _ (token-says p (drop m cs))
-          go (Lost r p m) h = record { is = h .is }
+      -- where it holds of a record whatever that tells of depths
+      module _ (tells : (g d : ℕ) (t : Token) → P t → P (toldToken g d t)) where
+        told-in : (g d : ℕ) (w : What) → SaysIn P Q w → SaysIn P Q (toldWhat g d w)
+        told-in g d (Got t) h = tells g d t h
+        told-in g d (Error r) h = h
+        told-in g d End h = h
+
+        says-told : (g : ℕ) (x : Call) → Says P Q x → Says P Q (told g x)
+        unfolding told
+        says-told g x h = record { is = told-in g _ (x .what) (h .is) }
+
+        -- THE LAW, of every call
+        pub next-says : (cs : List ℕ) (at : ℕ) → Says P Q (next cs at)
+        unfolding next
+        next-says cs at = go (gap cs at) (gap-loses cs at)
+          where
+            go : (x : Skip) → Loses Q x → Says P Q (nextBy cs x (gapDepth cs at))
+            go (Past p m) h = says-told _ _ (says-more m _ (token-says p (drop m cs)))
+            go (Lost r p m) h = record { is = h .is }

@@ -21,4 +21,4 @@ ErrorIn w = SaysIn (λ (t : Token). Unit {0}) (λ (c : Code). isError c ≡ true
 
 -- of every call
 pub next-errs : (cs : List ℕ) (at : ℕ) → Says (λ (t : Token). Unit {0}) (λ (c : Code). isError c ≡ true) (next cs at)
-next-errs cs at = next-says (λ t. Unit {0}) (λ c. isError c ≡ true) (λ kind o p h. tt) (λ kind o p from to h s. tt) refl refl refl refl refl refl refl refl (λ o p from to. tt) cs at
+next-errs cs at = next-says (λ t. Unit {0}) (λ c. isError c ≡ true) (λ kind o p h. tt) (λ kind o p from to h s. tt) refl refl refl refl refl refl refl refl (λ o p from to. tt) (λ g d t h. h) cs at

@@ -5,11 +5,12 @@ use mathlib.Core.Path.{_≡_, refl}
 use Rattle.utf8.specs.Chars.{'!, '#, '[, '], 'a, 'comma}
 use Rattle.utf8.specs.Utf8.{chars, charsFrom, high, lead, low, reach, sight, widthOf}
 use Rattle.record.specs.Checks.{checks}
+use Rattle.scan.specs.Depth.{deepest, depthFrom, slashDepth}
 use Rattle.scan.specs.Far.{after}
 use Rattle.scan.specs.IfNext.{ifNext}
 use Rattle.scan.specs.Until.{until}
 use Rattle.scan.specs.Walk.{walkFrom}
-use Rattle.reading.specs.Answers.{deliver, more, plain, startState}
+use Rattle.reading.specs.Answers.{deliver, more, plain, startState, told}
 use Rattle.reading.specs.Attribute.{attempt, attemptBody, attemptBracket, attributeToken, attributeTurn, dropped, hash}
 use Rattle.reading.specs.Gaps.{gap, gapTurn}
 use Rattle.reading.specs.Measures.{hashes, marks, readsAttribute}
@@ -24,7 +25,7 @@ abbrev twice : List ℕ
 twice = '# ∷ '! ∷ 'comma ∷ []
 
 pub bound-reached : (ranOf twice 0 99 9 startState .advances ≡ 5) × (N twice + 2 * (H twice - B twice) + B twice * N twice ≡ 5)
-unfolding ranWith wholeRunWith checks runWith runFromWith stepWith next gap gapTurn tokenOrEnd token starts single singles bang attempt attemptBracket hash walkFrom deliver plain more ifNext chars charsFrom sight lead low high widthOf reach hashes marks readsAttribute
+unfolding ranWith wholeRunWith checks runWith runFromWith stepWith next gap gapTurn tokenOrEnd token starts single singles bang attempt attemptBracket hash walkFrom deliver plain more told depthFrom slashDepth deepest ifNext chars charsFrom sight lead low high widthOf reach hashes marks readsAttribute
 bound-reached = (refl, refl)
 
 -- #![a]
@@ -32,5 +33,5 @@ abbrev last : List ℕ
 last = '# ∷ '! ∷ '[ ∷ 'a ∷ '] ∷ []
 
 pub last-drops-nothing : (ranOf last 0 99 9 startState .advances ≡ 5) × (ranOf last 0 99 9 startState .stored ≡ 1) × (N last ≡ 5)
-unfolding ranWith wholeRunWith checks runWith runFromWith stepWith next gap gapTurn tokenOrEnd token attempt attemptBracket attemptBody attributeTurn attributeToken dropped after hash walkFrom more ifNext until chars charsFrom sight lead low high widthOf reach
+unfolding ranWith wholeRunWith checks runWith runFromWith stepWith next gap gapTurn tokenOrEnd token attempt attemptBracket attemptBody attributeTurn attributeToken dropped after hash walkFrom more told depthFrom slashDepth deepest ifNext until chars charsFrom sight lead low high widthOf reach
 last-drops-nothing = (refl, refl, refl)

@@ -8,5 +8,8 @@ pub mod Written
 pub mod Examples
 -- the laws that lead there
 pub mod Answered
+pub mod Untold
+pub mod Small
+pub mod Levels
 pub mod Codes
 pub mod Runs

@@ -2,7 +2,7 @@
 use Prim.Native.Nat.{_+_, _-_, suc, zero, ℕ}
 use native.Mathlib.Omega.{arith}
 use mathlib.Core.Bool.{Bool, cond, false, true}
-use mathlib.Core.List.{List}
+use mathlib.Core.List.{List, []}
 use mathlib.Core.Path.{_∙_, _≡_, ap, refl}
 use lib.Dec.{ltb}
 use lib.ListN.{length}
@@ -44,9 +44,10 @@ module _ (s : List ℕ) (t : Tokenizer) where
   none how e = rw e (omega arith)
 
   -- the final call
-  one : (how : Outcome) (u : Tokenizer) → finalCall how ≡ 1 → u .count ≡ t .count + next (left s (t .at)) (t .at) .advances → Spends s t (stopped how u)
+  one : (how : Outcome) (g : ℕ) (u : Tokenizer) → finalCall how ≡ 1 → u .count ≡ t .count + next (left s (t .at)) (t .at) .advances
+      → Spends s t (record { tokens = []; how = how; state = u; last = g })
   unfolding spent
-  one how u e c = rw (e, c) (omega arith)
+  one how g u e c = rw (e, c) (omega arith)
 
   -- a token's call
   first : (y : Token) (u : Tokenizer) (r : Run) → u .at ≡ next (left s (t .at)) (t .at) .at → u .count ≡ t .count + next (left s (t .at)) (t .at) .advances
@@ -84,11 +85,11 @@ module _ (s : List ℕ) (shift limit : ℕ) where
           let e = step-on s shift limit t d q in
           let l : isError (z .code) ≡ true = rw w at h in
           rw (run-error s shift limit k room t (refusal (z .code) (z .place + shift)) (ap (λ (x : Stepped). x .what) e ∙ ap (shiftWhat shift) w))
-          (one s t (Refused (refusal (z .code) (z .place + shift))) (step s shift limit t .next) (rw l) (ap (λ (x : Stepped). x .next .count) e))
+          (one s t (Refused (refusal (z .code) (z .place + shift))) 0 (step s shift limit t .next) (rw l) (ap (λ (x : Stepped). x .next .count) e))
       on q End w h =
           let e = step-on s shift limit t d q in
           rw (run-end s shift limit k room t (ap (λ (x : Stepped). x .what) e ∙ ap (shiftWhat shift) w))
-          (one s t Ended (step s shift limit t .next) refl (ap (λ (x : Stepped). x .next .count) e))
+          (one s t Ended (step s shift limit t .«gap_depth») (step s shift limit t .next) refl (ap (λ (x : Stepped). x .next .count) e))
 
       by : (b : Bool) → ltb limit (t .count + call s shift limit t .advances) ≡ b → Spends s t (runFrom s shift limit (suc k) room t)
       by true q =

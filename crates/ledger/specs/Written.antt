@@ -21,7 +21,7 @@ use Rattle.scan.specs.Until.{left}
 use Rattle.reading.specs.Run.{run}
 use Rattle.reading.specs.declared.Tokenizer.{Tokenizer}
 use Rattle.run.specs.Checked.{ranOf, ranWith, wholeRun}
-use Rattle.run.specs.Numbers.{groupSize, numbersAll, numbersOf}
+use Rattle.run.specs.Numbers.{groupSize, groups, numbersAll, numbersOf}
 use Rattle.run.specs.declared.Ran.{Ran}
 use Rattle.ltk.specs.Faithful.{passing-answer}
 use Rattle.ltk.specs.Layout.{countLimit, lastKind, recordPlace}
@@ -97,13 +97,13 @@ module _ (s : List ℕ) (limit : ℕ) (list-before list-after : List Token) (t :
 
 -- ---- the same over plain numbers, five a record
 numbers-length : (ts : List Token) → length (numbersAll ts) ≡ groupSize * length ts
-unfolding numbersAll
+unfolding groups
 numbers-length [] = refl
 numbers-length (t ∷ ts) = let h = numbers-length ts in omega arith
 
 -- the records that the writer finds in a run's numbers are those of its tokens
 entries-from : (front : List ℕ) (i : ℕ) (ts : List Token) → length front ≡ groupSize * i → listed (entryIn (front ++ numbersAll ts)) i (length ts) ≡ map entryOf ts
-unfolding listed numbersAll
+unfolding listed groups
 entries-from front i [] e = refl
 entries-from front i (t ∷ ts) e = rw (here, more (entries-from (front ++ numbersOf t) (i + 1) ts (length-append front (numbersOf t) ∙ omega arith)))
   where

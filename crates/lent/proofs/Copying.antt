@@ -12,8 +12,9 @@ use lib.Seq.{length-sets, length-take-le, sets, take-suc}
 use borrow.Author.Tests.{le-ltb, lt-ltb, ltb-false, ltb-true}
 use Rattle.record.specs.Stores.{sets-over}
 use Rattle.record.specs.declared.Token.{Token}
-use Rattle.run.specs.Numbers.{groupSize, numbersAll, numbersOf}
+use Rattle.run.specs.Numbers.{groupSize, groups, numbersAll, numbersOf}
 use Rattle.run.specs.Pending.{noToken}
+use Rattle.run.specs.declared.Group.the-variants.{Five}
 use Rattle.run.proofs.Groups.{all-length, group-on}
 use Rattle.lent.specs.Copies.{fitted}
 use Rattle.lent.specs.Steps.{fitting, turnAt}
@@ -36,10 +37,10 @@ module _ (count room : ℕ) where
 
 module _ (ts : List Token) (count : ℕ) (less : count ≤ length ts) (xs : List ℕ) where
   all-first : length (numbersAll (take count ts)) ≡ groupSize * count
-  all-first = all-length (take count ts) ∙ ap (λ (k : ℕ). groupSize * k) (length-take-le count ts less)
+  all-first = all-length Five (take count ts) ∙ ap (λ (k : ℕ). groupSize * k) (length-take-le count ts less)
 
   copied-by : (b : Bool) → ltb (length xs) (groupSize * count) ≡ b → sets xs 0 (numbersAll (take (fitting count (length xs)) ts)) ≡ fitted (numbersAll (take count ts)) xs
-  unfolding fitted numbersAll
+  unfolding fitted groups
   copied-by true e = rw (e, ap (λ (k : ℕ). ltb (length xs) k) all-first ∙ e)
   copied-by false e =
       let l = ltb-false (length xs) (groupSize * count) e in
@@ -59,7 +60,7 @@ module _ (ts : List Token) (count : ℕ) (less : count ≤ length ts) (xs : List
   n = fitting count (length xs)
 
   pub start : (p : Turn) → p ≡ turnAt n 0 → Inv ts n xs p xs
-  unfolding numbersAll
+  unfolding groups
   start p e = rw e (record { p-is = refl; far = omega arith; list-is = refl })
 
   module _ (p : Turn) (ys : List ℕ) (i : Inv ts n xs p ys) where
@@ -92,7 +93,7 @@ module _ (ts : List Token) (count : ℕ) (less : count ≤ length ts) (xs : List
           far = omega (arith, within g);
           list-is =
               ap (λ (y : List ℕ). sets y (groupSize * p .at) (numbersOf (getD ts (p .at) noToken))) (i .list-is)
-              ∙ group-on (take (p .at) ts) (getD ts (p .at) noToken) xs (p .at) (sym (length-take-le (p .at) ts (omega (arith, in-list g))))
+              ∙ group-on Five (take (p .at) ts) (getD ts (p .at) noToken) xs (p .at) (sym (length-take-le (p .at) ts (omega (arith, in-list g))))
               ∙ ap (λ (z : List Token). sets xs 0 (numbersAll z)) (sym (take-suc ts (p .at) noToken (in-list g)) ∙ ap (λ (k : ℕ). take k ts) (sym (add-one (p .at))));
         })
 

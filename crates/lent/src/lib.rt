@@ -1,7 +1,7 @@
 // Callers with plain parameters: a tokenizer and a list of records that stand in locals are lent here, so that a program need not lend them.
 use ltk::Answer;
-use reading::Stepped;
 use reading::Tokenizer;
+use reading::What;
 use record::Kind;
 use record::Token;
 use run::Ran;
@@ -19,13 +19,19 @@ ghost use Rattle.run.specs.Pending.{noToken};
 ghost use Rattle.lent.specs.Copies.{fitted, highestLimit, listRoom};
 ghost use Rattle.lent.specs.Steps.{fitting, turnAt};
 
+// What the single call answers, and the tokenizer that it leaves.
+pub struct Called {
+    pub what: What,
+    pub next: Tokenizer,
+}
+
 // The single call: the tokenizer stands in a local, which is lent.
-pub fn next_lent(text: &[u8], shift: u64, limit: u64, from: Tokenizer) -> Stepped
-    ensures { λ r. ⌜ r ≡ nextToken (now (text .entry)) shift limit from ⌝ }
+pub fn next_lent(text: &[u8], shift: u64, limit: u64, from: Tokenizer) -> Called
+    ensures { λ r. ⌜ (r .what ≡ nextToken (now (text .entry)) shift limit from .what) × (r .next ≡ nextToken (now (text .entry)) shift limit from .next) ⌝ }
 {
     let mut t = from;
     let what = run::next(text, shift, limit, &mut t);
-    Stepped { what, next: t }
+    Called { what, next: t }
 }
 
 // How many records a local list has room for.

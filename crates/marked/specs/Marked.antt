@@ -13,12 +13,13 @@ use Rattle.record.specs.declared.Code.the-variants.{ExpectedStringLiteral, Half
 use Rattle.record.specs.declared.Kind.{Kind}
 use Rattle.record.specs.declared.Kind.the-variants.{Bang, CharLiteral, EqualsGreaterThanCode, EqualsGreaterThanQuestionCode, Hash, Id, In, LeftBracket, LessThan, MacroId, RegexLiteral, Semi, ShebangAttribute, Underscore}
 use Rattle.record.specs.declared.Token.{Token}
+use Rattle.scan.specs.Depth.{deepest, depthFrom, slashDepth}
 use Rattle.scan.specs.Far.{after}
 use Rattle.scan.specs.IfNext.{ifNext}
 use Rattle.scan.specs.Until.{until}
 use Rattle.scan.specs.Walk.{walkFrom}
 use Rattle.code.specs.Code.{bodySkip, closes, codeTurn, escSkip, oneSkip, opens, quoteEnd, quoteSkip, rSkip, slashSkip}
-use Rattle.reading.specs.Answers.{deliver, more, plain, refuse, startState}
+use Rattle.reading.specs.Answers.{deliver, more, plain, refuse, startState, told, toldToken}
 use Rattle.reading.specs.Attribute.{attempt, attemptBody, attemptBracket, attributeToken, attributeTurn, dropped, hash}
 use Rattle.reading.specs.Gaps.{commentTurn, gap, gapTurn}
 use Rattle.reading.specs.Next.{next, starts, token, tokenOrEnd}
@@ -46,9 +47,13 @@ rowOf r = row (r .tokens) (r .how) (r .state .count)
 abbrev read : List ℕ → Row
 read s = rowOf (run s 0 1000 1000 startState)
 
+-- a token with a payload, before which and in which no comment stands (02, E4: both depths are 0)
+abbrev clear : Kind → ℕ → ℕ → ℕ → ℕ → Token
+clear k o e from to = toldToken 0 0 (tokenOf k o e from to)
+
 -- a token without a payload
 abbrev bare : Kind → ℕ → ℕ → Token
-bare k o e = tokenOf k o e o o
+bare k o e = clear k o e o o
 
 abbrev at : Code → ℕ → Outcome
 at c p = Refused (refusal c p)
@@ -68,31 +73,31 @@ marked =
     -- ##
     ∷ ('# ∷ '# ∷ [], row (bare Hash 0 1 ∷ bare Hash 1 2 ∷ []) Ended 3)
     -- #![ newline x
-    ∷ ('# ∷ '! ∷ '[ ∷ 'newline ∷ 'x ∷ [], row (bare Hash 0 1 ∷ bare Bang 1 2 ∷ bare LeftBracket 2 3 ∷ tokenOf Id 4 5 4 5 ∷ []) Ended 7)
+    ∷ ('# ∷ '! ∷ '[ ∷ 'newline ∷ 'x ∷ [], row (bare Hash 0 1 ∷ bare Bang 1 2 ∷ bare LeftBracket 2 3 ∷ clear Id 4 5 4 5 ∷ []) Ended 7)
     -- r#_
     ∷ ('r ∷ '# ∷ 'underscore ∷ [], row (bare Underscore 0 3 ∷ []) Ended 3)
     -- r##ab<
-    ∷ ('r ∷ '# ∷ '# ∷ 'a ∷ 'b ∷ '< ∷ [], row (tokenOf MacroId 0 5 0 5 ∷ bare LessThan 5 6 ∷ []) Ended 6)
+    ∷ ('r ∷ '# ∷ '# ∷ 'a ∷ 'b ∷ '< ∷ [], row (clear MacroId 0 5 0 5 ∷ bare LessThan 5 6 ∷ []) Ended 6)
     -- r#1
     ∷ ('r ∷ '# ∷ '1 ∷ [], row [] (at ExpectedStringLiteral 2) 2)
     -- r#"a"b"#
-    ∷ ('r ∷ '# ∷ 'dquote ∷ 'a ∷ 'dquote ∷ 'b ∷ 'dquote ∷ '# ∷ [], row (tokenOf RegexLiteral 0 8 3 6 ∷ []) Ended 8)
+    ∷ ('r ∷ '# ∷ 'dquote ∷ 'a ∷ 'dquote ∷ 'b ∷ 'dquote ∷ '# ∷ [], row (clear RegexLiteral 0 8 3 6 ∷ []) Ended 8)
     -- =>r#"a"b"#;
     ∷ ('= ∷ '> ∷ 'r ∷ '# ∷ 'dquote ∷ 'a ∷ 'dquote ∷ 'b ∷ 'dquote ∷ '# ∷ 'semi ∷ [], row [] (at UnterminatedStringLiteral 8) 11)
     -- =>'a'
     ∷ ('= ∷ '> ∷ 'quote ∷ 'a ∷ 'quote ∷ [], row [] (at UnterminatedCharacterLiteral 2) 5)
     -- =>'a';
-    ∷ ('= ∷ '> ∷ 'quote ∷ 'a ∷ 'quote ∷ 'semi ∷ [], row (tokenOf EqualsGreaterThanCode 0 5 2 5 ∷ bare Semi 5 6 ∷ []) Ended 6)
+    ∷ ('= ∷ '> ∷ 'quote ∷ 'a ∷ 'quote ∷ 'semi ∷ [], row (clear EqualsGreaterThanCode 0 5 2 5 ∷ bare Semi 5 6 ∷ []) Ended 6)
     -- /*/
     ∷ ('/ ∷ '* ∷ '/ ∷ [], row [] (at UnterminatedBlockComment 0) 3)
     -- /*/**/*/
     ∷ ('/ ∷ '* ∷ '/ ∷ '* ∷ '* ∷ '/ ∷ '* ∷ '/ ∷ [], row [] Ended 8)
     -- =>?
-    ∷ ('= ∷ '> ∷ '? ∷ [], row (tokenOf EqualsGreaterThanQuestionCode 0 3 3 3 ∷ []) Ended 3)
+    ∷ ('= ∷ '> ∷ '? ∷ [], row (clear EqualsGreaterThanQuestionCode 0 3 3 3 ∷ []) Ended 3)
     ∷ []
 
 pub marked-examples : readAll marked ≡ expected marked
-unfolding readAll expected marked runWith runFromWith stepWith next gap gapTurn commentTurn tokenOrEnd token starts single singles half stray bang colon dot look tilde minus arrowLook arrowCode rightArrow equals attributeTurn attemptBody attemptBracket attempt dropped attributeToken hash regexToken hashed regexLiteral rWord spells keywords useToken idToken keywordToken wordToken identifierish escape stringLiteral charLiteral lifetimeish slashSkip quoteEnd oneSkip escSkip quoteSkip bodySkip rSkip opens closes codeTurn walkFrom deliver plain refuse more ifNext until after chars charsFrom sight lead low high widthOf startRanges continueRanges holds inRanges
+unfolding readAll expected marked runWith runFromWith stepWith next gap gapTurn commentTurn tokenOrEnd token starts single singles half stray bang colon dot look tilde minus arrowLook arrowCode rightArrow equals attributeTurn attemptBody attemptBracket attempt dropped attributeToken hash regexToken hashed regexLiteral rWord spells keywords useToken idToken keywordToken wordToken identifierish escape stringLiteral charLiteral lifetimeish slashSkip quoteEnd oneSkip escSkip quoteSkip bodySkip rSkip opens closes codeTurn walkFrom deliver plain refuse more told depthFrom slashDepth deepest ifNext until after chars charsFrom sight lead low high widthOf startRanges continueRanges holds inRanges
 marked-examples = refl
 
 -- what `run::run` stores and answers, with the three checks and the boundary before the reading
@@ -104,7 +109,7 @@ ranAll [] = []
 ranAll (r ∷ rs) = ran (r .0) ∷ ranAll rs
 
 pub marked-runs : ranAll marked ≡ expected marked
-unfolding ranAll expected marked ranWith wholeRunWith checks reach runWith runFromWith stepWith next gap gapTurn commentTurn tokenOrEnd token starts single singles half stray bang colon dot look tilde minus arrowLook arrowCode rightArrow equals attributeTurn attemptBody attemptBracket attempt dropped attributeToken hash regexToken hashed regexLiteral rWord spells keywords useToken idToken keywordToken wordToken identifierish escape stringLiteral charLiteral lifetimeish slashSkip quoteEnd oneSkip escSkip quoteSkip bodySkip rSkip opens closes codeTurn walkFrom deliver plain refuse more ifNext until after chars charsFrom sight lead low high widthOf startRanges continueRanges holds inRanges
+unfolding ranAll expected marked ranWith wholeRunWith checks reach runWith runFromWith stepWith next gap gapTurn commentTurn tokenOrEnd token starts single singles half stray bang colon dot look tilde minus arrowLook arrowCode rightArrow equals attributeTurn attemptBody attemptBracket attempt dropped attributeToken hash regexToken hashed regexLiteral rWord spells keywords useToken idToken keywordToken wordToken identifierish escape stringLiteral charLiteral lifetimeish slashSkip quoteEnd oneSkip escSkip quoteSkip bodySkip rSkip opens closes codeTurn walkFrom deliver plain refuse more told depthFrom slashDepth deepest ifNext until after chars charsFrom sight lead low high widthOf startRanges continueRanges holds inRanges
 marked-runs = refl
 
 -- more of the paper's examples, with shift, work limit and room
@@ -122,18 +127,18 @@ expectedWith (r ∷ rs) = r .2 ∷ expectedWith rs
 unfoldable pub further : List ((ℕ × ℕ × ℕ) × List ℕ × Row)
 further =
     -- two quotes
-    ((0, 99, 99), 'quote ∷ 'quote ∷ [], row (tokenOf CharLiteral 0 2 1 1 ∷ []) Ended 2)
+    ((0, 99, 99), 'quote ∷ 'quote ∷ [], row (clear CharLiteral 0 2 1 1 ∷ []) Ended 2)
     -- a dot, with shift 7 (02, E3: half a symbol, 22 and no longer 1)
     ∷ ((7, 99, 99), 'dot ∷ [], row [] (at HalfSymbol 7) 1)
     -- the listing: #![a]xb=>c;
     ∷ (
       (0, 99, 99),
       '# ∷ '! ∷ '[ ∷ 'a ∷ '] ∷ 'x ∷ 'b ∷ '= ∷ '> ∷ 'c ∷ 'semi ∷ [],
-      row (tokenOf ShebangAttribute 0 5 0 5 ∷ tokenOf Id 6 7 6 7 ∷ tokenOf EqualsGreaterThanCode 7 10 9 10 ∷ bare Semi 10 11 ∷ []) Ended 11,
+      row (clear ShebangAttribute 0 5 0 5 ∷ clear Id 6 7 6 7 ∷ clear EqualsGreaterThanCode 7 10 9 10 ∷ bare Semi 10 11 ∷ []) Ended 11,
     )
     -- a keyword before < stays a keyword; a hashed word is none
     ∷ ((0, 99, 99), 'i ∷ 'n ∷ '< ∷ [], row (bare In 0 2 ∷ bare LessThan 2 3 ∷ []) Ended 3)
-    ∷ ((0, 99, 99), 'r ∷ '# ∷ 'i ∷ 'n ∷ [], row (tokenOf Id 0 4 0 4 ∷ []) Ended 4)
+    ∷ ((0, 99, 99), 'r ∷ '# ∷ 'i ∷ 'n ∷ [], row (clear Id 0 4 0 4 ∷ []) Ended 4)
     -- ## : the first call takes 2 advances, the second 1, the end none
     ∷ ((5, 1, 99), '# ∷ '# ∷ [], row [] (at WorkLimit 5) 0)
     ∷ ((5, 2, 99), '# ∷ '# ∷ [], row (bare Hash 5 6 ∷ []) (at WorkLimit 6) 2)
@@ -144,5 +149,5 @@ further =
     ∷ []
 
 pub further-examples : readAllWith further ≡ expectedWith further
-unfolding readAllWith expectedWith further runWith runFromWith stepWith next gap gapTurn commentTurn tokenOrEnd token starts single singles half stray bang colon dot look tilde minus arrowLook arrowCode rightArrow equals attributeTurn attemptBody attemptBracket attempt dropped attributeToken hash regexToken hashed regexLiteral rWord spells keywords useToken idToken keywordToken wordToken identifierish escape stringLiteral charLiteral lifetimeish slashSkip quoteEnd oneSkip escSkip quoteSkip bodySkip rSkip opens closes codeTurn walkFrom deliver plain refuse more ifNext until after chars charsFrom sight lead low high widthOf startRanges continueRanges holds inRanges
+unfolding readAllWith expectedWith further runWith runFromWith stepWith next gap gapTurn commentTurn tokenOrEnd token starts single singles half stray bang colon dot look tilde minus arrowLook arrowCode rightArrow equals attributeTurn attemptBody attemptBracket attempt dropped attributeToken hash regexToken hashed regexLiteral rWord spells keywords useToken idToken keywordToken wordToken identifierish escape stringLiteral charLiteral lifetimeish slashSkip quoteEnd oneSkip escSkip quoteSkip bodySkip rSkip opens closes codeTurn walkFrom deliver plain refuse more told depthFrom slashDepth deepest ifNext until after chars charsFrom sight lead low high widthOf startRanges continueRanges holds inRanges
 further-examples = refl

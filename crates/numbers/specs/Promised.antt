@@ -20,6 +20,7 @@ use Rattle.record.specs.declared.Checked.the-variants.{Passed, Refused as Stopp
 use Rattle.record.specs.declared.Code.the-variants.{TooLong}
 use Rattle.record.specs.declared.Known.{Known}
 use Rattle.record.specs.declared.Refusal.{Refusal}
+use Rattle.record.specs.declared.Told.the-variants.{Unknown as NotTold}
 use Rattle.record.specs.declared.Token.{Token}
 use Rattle.reading.specs.declared.Outcome.{Outcome}
 use Rattle.reading.specs.declared.Tokenizer.{Tokenizer}
@@ -49,7 +50,7 @@ use Rattle.ltk.specs.declared.Found.the-variants.{Record}
 use Rattle.sheet.specs.Sheet.{taken}
 use Rattle.sheet.specs.declared.Taken.{Taken}
 use Rattle.numbers.specs.Same.{answer-same, code-some, checked-same, expanded-same, found-same, known-same, located-same, outcome-same, reported-same, taken-same, what-same}
-use Rattle.numbers.specs.Values.{answerNumbers, checkedNumbers, expandedNumbers, foundNumbers, knownNumbers, locatedNumbers, outcomeNumbers, refusalNumbers, reportedNumbers, takenNumbers, whatNumbers}
+use Rattle.numbers.specs.Values.{answerNumbers, checkedNumbers, expandedNumbers, foundNumbers, knownNumbers, locatedNumbers, outcomeNumbers, refusalNumbers, reportedNumbers, takenNumbers, toldNumbers, whatNumbers}
 
 -- an answer is the one that is promised exactly if its numbers are
 abbrev pub Tells : {A : Type 0} → (A → List ℕ) → A → A → Type 0
@@ -273,14 +274,19 @@ write-answer-told es room r e =
     (bytes-told room (judged 0 0 es)
     ∙ ap (λ (ns : List ℕ). shortNumbers (ltb room (recordPlace (getD ns 2 0))) (recordPlace (getD ns 2 0)) ns) (judged-told 0 0 es))
 
--- `ltk::record_at`: the record's kind, start and end, its payload places equal to its start
-entry-told : (e : Entry) (b : Bool) → ltb 53 (e .kind) ≡ b → cond b [] (foundNumbers (Record (tokenIn e))) ≡ cond b [] (numbersIn e)
+-- `ltk::record_at`: the record's kind, start and end, its payload places equal to its start. 02, E4: "a record read from LTK says "not known""
+abbrev pub fileNumbers : Entry → List ℕ
+fileNumbers e = numbersIn e ++ (toldNumbers NotTold ++ toldNumbers NotTold)
+
+entry-told : (e : Entry) (b : Bool) → ltb 53 (e .kind) ≡ b → cond b [] (foundNumbers (Record (tokenIn e))) ≡ cond b [] (fileNumbers e)
 entry-told e true q = refl
-entry-told e false q = let l = ltb-false 53 (e .kind) q in ap (λ (k : ℕ). k ∷ e .start ∷ e .end ∷ e .start ∷ e .start ∷ []) (number-again (e .kind) (omega arith))
+entry-told e false q =
+    let l = ltb-false 53 (e .kind) q in
+    ap (λ (k : ℕ). k ∷ e .start ∷ e .end ∷ e .start ∷ e .start ∷ (toldNumbers NotTold ++ toldNumbers NotTold)) (number-again (e .kind) (omega arith))
 
 pub record-told : (file : List ℕ) (i : ℕ) (r : Found) → r ≡ recordAt file i
     → foundNumbers r
-    ≡ cond (ltb i (countIn file)) (cond (ltb (length file) (recordPlace (i + 1))) [] (cond (ltb 53 (entryAt file i .kind)) [] (numbersIn (entryAt file i)))) []
+    ≡ cond (ltb i (countIn file)) (cond (ltb (length file) (recordPlace (i + 1))) [] (cond (ltb 53 (entryAt file i .kind)) [] (fileNumbers (entryAt file i)))) []
 unfolding recordAt
 record-told file i r e = simp (e, numbers-test foundNumbers, entry-told (entryAt file i) (ltb 53 (entryAt file i .kind)) refl)
 

@@ -1,6 +1,7 @@
 -- Nothing is lost by the numbers: no two answers have the same.
 use Prim.Native.Nat.{ℕ}
 use native.Mathlib.Omega.{arith}
+use mathlib.Core.List.{List, [], _++_, append-nil}
 use mathlib.Core.Path.{_≡_, refl, sym, ap, _∙_}
 use Rattle.record.specs.Numbers.{code-again, codeNumber, codeOf, codes, kind-again, kindNumber, kindOf}
 use Rattle.record.specs.declared.Checked.{Checked}
@@ -12,11 +13,12 @@ use Rattle.record.specs.declared.Known.{Known}
 use Rattle.record.specs.declared.Known.the-variants.{Kind as AKind, Nothing as Unknown}
 use Rattle.record.specs.declared.Refusal.{Refusal}
 use Rattle.record.specs.declared.Token.{Token}
+use Rattle.record.specs.declared.Told.{Told}
+use Rattle.record.specs.declared.Told.the-variants.{Is, Unknown as NotTold}
 use Rattle.reading.specs.declared.Outcome.{Outcome}
 use Rattle.reading.specs.declared.Outcome.the-variants.{Ended, Refused, Running}
 use Rattle.reading.specs.declared.What.{What}
 use Rattle.reading.specs.declared.What.the-variants.{End, Error, Got}
-use Rattle.run.specs.Numbers.{numbersOf}
 use Rattle.escapes.specs.declared.Expanded.{Expanded}
 use Rattle.escapes.specs.declared.Expanded.the-variants.{Part as APart, Refused as NotExpanded}
 use Rattle.escapes.specs.declared.Held.{Held}
@@ -31,7 +33,7 @@ use Rattle.ltk.specs.declared.Found.{Found}
 use Rattle.ltk.specs.declared.Found.the-variants.{Nothing, Record}
 use Rattle.sheet.specs.declared.Taken.{Taken}
 use Rattle.sheet.specs.declared.Taken.the-variants.{Refused as NotTaken, Tallied, Whole}
-use Rattle.numbers.specs.Values.{answerNumbers, checkedNumbers, expandedNumbers, foundNumbers, heldNumber, knownNumbers, locatedNumbers, outcomeNumbers, reportedNumbers, takenNumbers, whatNumbers}
+use Rattle.numbers.specs.Values.{answerNumbers, checkedNumbers, expandedNumbers, foundNumbers, heldNumber, knownNumbers, locatedNumbers, outcomeNumbers, reportedNumbers, takenNumbers, tokenNumbers, toldNumbers, whatNumbers}
 
 -- ---- codes, kinds, refusals and tokens
 pub code-same : (c d : Code) → codeNumber c ≡ codeNumber d → c ≡ d
@@ -51,7 +53,13 @@ kind-same j k e = let h : AKind j ≡ AKind k = sym (kind-again j) ∙ ap kindOf
 pub refusal-same : (q r : Refusal) → codeNumber (q .code) ≡ codeNumber (r .code) → q .place ≡ r .place → q ≡ r
 refusal-same q r c p = let h = code-same (q .code) (r .code) c in rw (h, p)
 
-pub token-same : (t u : Token) → numbersOf t ≡ numbersOf u → t ≡ u
+told-same : (a b : Told) (xs ys : List ℕ) → toldNumbers a ++ xs ≡ toldNumbers b ++ ys → (a ≡ b) × (xs ≡ ys)
+told-same (Is n) (Is m) xs ys e = let h : n ≡ m = cc in (ap Is h, cc)
+told-same (Is n) NotTold xs ys e = let z : _≡_ {A = ℕ} 0 1 = cc in absurd (omega arith)
+told-same NotTold (Is m) xs ys e = let z : _≡_ {A = ℕ} 0 1 = cc in absurd (omega arith)
+told-same NotTold NotTold xs ys e = (refl, cc)
+
+pub token-same : (t u : Token) → tokenNumbers t ≡ tokenNumbers u → t ≡ u
 token-same t u e =
     let k : kindNumber (t .kind) ≡ kindNumber (u .kind) = cc in
     let a : t .kind ≡ u .kind = kind-same (t .kind) (u .kind) k in
@@ -59,7 +67,10 @@ token-same t u e =
     let c : t .end ≡ u .end = cc in
     let d : t .«payload_start» ≡ u .«payload_start» = cc in
     let f : t .«payload_end» ≡ u .«payload_end» = cc in
-    rw (a, b, c, d, f)
+    let r : toldNumbers (t .«gap_depth») ++ toldNumbers (t .«code_depth») ≡ toldNumbers (u .«gap_depth») ++ toldNumbers (u .«code_depth») = cc in
+    let g = told-same (t .«gap_depth») (u .«gap_depth») (toldNumbers (t .«code_depth»)) (toldNumbers (u .«code_depth»)) r in
+    let h = told-same (t .«code_depth») (u .«code_depth») [] [] (append-nil (toldNumbers (t .«code_depth»)) ∙ g .1 ∙ sym (append-nil (toldNumbers (u .«code_depth»)))) in
+    rw (a, b, c, d, f, g .0, h .0)
 
 held-same : (a b : Held) → heldNumber a ≡ heldNumber b → a ≡ b
 held-same Text Text e = refl
@@ -69,7 +80,7 @@ held-same Buffer Text e = absurd (omega arith)
 
 -- ---- THE THEOREMS, of each enum
 pub what-same : (a b : What) → whatNumbers a ≡ whatNumbers b → a ≡ b
-what-same (Got t) (Got u) e = let h : numbersOf t ≡ numbersOf u = cc in ap Got (token-same t u h)
+what-same (Got t) (Got u) e = let h : tokenNumbers t ≡ tokenNumbers u = cc in ap Got (token-same t u h)
 what-same (Got t) (Error r) e = cc
 what-same (Got t) End e = cc
 what-same (Error r) (Got t) e = cc

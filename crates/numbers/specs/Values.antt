@@ -9,6 +9,9 @@ use Rattle.record.specs.declared.Checked.the-variants.{Passed, Refused as Stopp
 use Rattle.record.specs.declared.Known.{Known}
 use Rattle.record.specs.declared.Known.the-variants.{Kind as AKind, Nothing as Unknown}
 use Rattle.record.specs.declared.Refusal.{Refusal}
+use Rattle.record.specs.declared.Token.{Token}
+use Rattle.record.specs.declared.Told.{Told}
+use Rattle.record.specs.declared.Told.the-variants.{Is, Unknown as NotTold}
 use Rattle.reading.specs.declared.Outcome.{Outcome}
 use Rattle.reading.specs.declared.Outcome.the-variants.{Ended, Refused, Running}
 use Rattle.reading.specs.declared.What.{What}
@@ -37,9 +40,18 @@ refusalNumbers r = codeNumber (r .code) ∷ r .place ∷ []
 abbrev pub noRefusal : List ℕ
 noRefusal = 0 ∷ 0 ∷ []
 
--- `reading::What`, a call's answer: a token by its "kind, start, end, payload start, payload end", a refusal, or the end
+-- `record::Told`, what a record tells besides: 1 and the number where it is known
+abbrev pub toldNumbers : Told → List ℕ
+toldNumbers (Is n) = 1 ∷ n ∷ []
+toldNumbers NotTold = 0 ∷ 0 ∷ []
+
+-- a token by its "kind, start, end, payload start, payload end", and its two depths
+abbrev pub tokenNumbers : Token → List ℕ
+tokenNumbers t = numbersOf t ++ (toldNumbers (t .«gap_depth») ++ toldNumbers (t .«code_depth»))
+
+-- `reading::What`, a call's answer: a token, a refusal, or the end
 abbrev pub whatNumbers : What → List ℕ
-whatNumbers (Got t) = noRefusal ++ numbersOf t
+whatNumbers (Got t) = noRefusal ++ tokenNumbers t
 whatNumbers (Error r) = refusalNumbers r
 whatNumbers End = noRefusal
 
@@ -85,7 +97,7 @@ answerNumbers (NotDone r) = refusalNumbers r ++ (0 ∷ [])
 
 -- `ltk::Found`, one record of a file
 abbrev pub foundNumbers : Found → List ℕ
-foundNumbers (Record t) = numbersOf t
+foundNumbers (Record t) = tokenNumbers t
 foundNumbers Nothing = []
 
 -- `sheet::Taken`, of a sheet that is handed a text: 1 where the text was taken, else 0; then the refusal, which is the text's error where that was tallied

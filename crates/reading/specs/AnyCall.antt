@@ -11,7 +11,7 @@ use Rattle.record.specs.Records.{refusal}
 use Rattle.record.specs.declared.Code.the-variants.{NoRoom}
 use Rattle.record.specs.declared.Refusal.{Refusal}
 use Rattle.record.specs.declared.Token.{Token}
-use Rattle.reading.specs.Run.{also, runFromWith, runWith, stepWith, stopped}
+use Rattle.reading.specs.Run.{also, ending, runFromWith, runWith, stepWith, stopped}
 use Rattle.reading.specs.declared.Call.{Call}
 use Rattle.reading.specs.declared.Outcome.the-variants.{Ended, Refused}
 use Rattle.reading.specs.declared.Stepped.{Stepped}
@@ -37,7 +37,7 @@ module _ (call : List ℕ → ℕ → Call) (s : List ℕ) (shift limit : ℕ) w
     unfolding runFromWith
     turn-error z e = rw (e, runFromWith)
 
-    pub turn-end : stepWith call s shift limit t .what ≡ End → runFromWith call s shift limit (suc k) room t ≡ stopped Ended (stepWith call s shift limit t .next)
+    pub turn-end : stepWith call s shift limit t .what ≡ End → runFromWith call s shift limit (suc k) room t ≡ ending (stepWith call s shift limit t .«gap_depth») (stepWith call s shift limit t .next)
     unfolding runFromWith
     turn-end e = rw (e, runFromWith)
 
@@ -46,13 +46,13 @@ module _ (call : List ℕ → ℕ → Call) (s : List ℕ) (shift limit : ℕ) w
     pub sticky-end : t .done ≡ Ended → runWith call s shift limit room t ≡ stopped Ended t
     unfolding runWith stepWith
     sticky-end d =
-        let e : stepWith call s shift limit t ≡ record { what = End; next = t } = rw d in
-        turn-end (length s) room t (ap (λ (x : Stepped). x .what) e) ∙ ap (λ (x : Stepped). stopped Ended (x .next)) e
+        let e : stepWith call s shift limit t ≡ record { what = End; next = t; «gap_depth» = 0 } = rw d in
+        turn-end (length s) room t (ap (λ (x : Stepped). x .what) e) ∙ ap (λ (x : Stepped). ending (x .«gap_depth») (x .next)) e
 
     pub sticky-error : (z : Refusal) → t .done ≡ Refused z → runWith call s shift limit room t ≡ stopped (Refused z) t
     unfolding runWith stepWith
     sticky-error z d =
-        let e : stepWith call s shift limit t ≡ record { what = Error z; next = t } = rw d in
+        let e : stepWith call s shift limit t ≡ record { what = Error z; next = t; «gap_depth» = 0 } = rw d in
         turn-error (length s) room t z (ap (λ (x : Stepped). x .what) e) ∙ ap (λ (x : Stepped). stopped (Refused z) (x .next)) e
 
   -- a run delivers no more tokens than there is room for

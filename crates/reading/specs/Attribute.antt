@@ -72,7 +72,7 @@ dropped (c ∷ cs) = 1
 
 -- the attribute from o to p; the characters cs stand at p
 unfoldable pub attributeToken : ℕ → List ℕ → ℕ → Call
-attributeToken o cs p = record { what = Got (tokenOf ShebangAttribute o p o p); at = after (dropped cs) cs p; advances = dropped cs }
+attributeToken o cs p = record { what = Got (tokenOf ShebangAttribute o p o p); at = after (dropped cs) cs p; advances = dropped cs; «gap_depth» = 0; «code_depth» = 0 }
 
 -- 01: "if it fails, the cursor returns to just after `#`, `Hash` is delivered, and the attempt's advances stay counted"; "Codes of a failed
 -- attempt, 7 too, never show": an attempt carries none. After a hash at o

@@ -15,10 +15,10 @@ use Rattle.scan.specs.Passes.{Sound}
 use Rattle.scan.specs.Walk.{walk}
 use Rattle.scan.specs.declared.Skip.{Skip}
 use Rattle.scan.specs.declared.Skip.the-variants.{Lost, Past}
-use Rattle.reading.specs.Answers.{deliver, more, plain}
+use Rattle.reading.specs.Answers.{deliver, more, plain, told, toldWhat}
 use Rattle.reading.specs.Attribute.{advancesOf, attempt, attemptBody, attemptBracket, attemptMore, attributeLast, attributeToken, attributeTurn, bodyBy, dropped, hash, hashBy, placeOf}
 use Rattle.reading.specs.Calls.{MovesIn, SpanIn, Taken, plain-taken}
-use Rattle.reading.specs.Gaps.{gap}
+use Rattle.reading.specs.Gaps.{gap, gapDepth}
 use Rattle.reading.specs.Measures.{isHash, tailOf, wasted}
 use Rattle.reading.specs.Next.{next, nextBy, starts, token, tokenOrEnd}
 use Rattle.reading.specs.Passes.{attribute-sound, gap-sound}
@@ -188,8 +188,8 @@ all-gone zero (c ∷ cs) h e = let z : _≡_ {A = ℕ} 0 1 = cc in absurd (omega
 all-gone (suc m) [] h e = absurd (omega arith)
 all-gone (suc m) (c ∷ cs) h e = ap suc (all-gone m cs (omega arith) e)
 
-lay : (cs : List ℕ) (at o m : ℕ) → gap cs at ≡ Past o m → Far cs at m o → (p n : ℕ) (w : What) → StandsIn (drop m cs) o p n w → LaidIn cs at p (m + n) w
-lay cs at o m e f p n (Got t) h = record {
+lay : (cs : List ℕ) (at o m : ℕ) → gap cs at ≡ Past o m → Far cs at m o → (p n g d : ℕ) (w : What) → StandsIn (drop m cs) o p n w → LaidIn cs at p (m + n) (toldWhat g d w)
+lay cs at o m e f p n g d (Got t) h = record {
   gapped = m;
   gap-is = rw (h .start) e;
   gap-far = rw (h .start) f;
@@ -199,18 +199,18 @@ lay cs at o m e f p n (Got t) h = record {
   tail = h .tail;
   spent = rw (h .start, h .spent) (omega arith);
 }
-lay cs at o m e f p n (Error r) h = then m cs at o n p f h
-lay cs at o m e f p n End h =
+lay cs at o m e f p n g d (Error r) h = then m cs at o n p f h
+lay cs at o m e f p n g d End h =
     let z : m + n ≡ m = omega (arith, h .1) in
     (rw (z, h .2) e, z ∙ all-gone m cs (f .within) (h .0))
 
 pub next-laid : (cs : List ℕ) (at : ℕ) → Laid cs at (next cs at)
-unfolding next more
+unfolding next more told
 next-laid cs at = go (gap cs at) refl (gap-sound cs at)
   where
-    go : (x : Skip) → gap cs at ≡ x → Sound cs at (gap cs at) → Laid cs at (nextBy cs x)
+    go : (x : Skip) → gap cs at ≡ x → Sound cs at (gap cs at) → Laid cs at (nextBy cs x (gapDepth cs at))
     go (Past o m) e h =
         let f : Far cs at m o = (rw e at h) .is in
         let y = token-or-end-stands (drop m cs) o in
-        record { is = lay cs at o m e f (tokenOrEnd (drop m cs) o .at) (tokenOrEnd (drop m cs) o .advances) (tokenOrEnd (drop m cs) o .what) (y .is) }
+        record { is = lay cs at o m e f (tokenOrEnd (drop m cs) o .at) (tokenOrEnd (drop m cs) o .advances) _ _ (tokenOrEnd (drop m cs) o .what) (y .is) }
     go (Lost r p m) e h = record { is = (rw e at h) .is }

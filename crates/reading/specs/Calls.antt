@@ -129,17 +129,17 @@ module _ (o : ℕ) (cs : List ℕ) (at : ℕ) where
       (fair-mark o 82 EqualsGreaterThanLookbehind cs at _ refl refl (fair-half o cs at))
 
   -- code
-  code-token-fair : (kind : Kind) (from : ℕ) (x : Skip) → isAttribute kind ≡ false → Sound cs at x → Fair o cs at (codeToken kind o from x)
-  code-token-fair kind from (Past p m) e h = fair-deliver o cs at kind from p p m e (h .is)
-  code-token-fair kind from (Lost r p m) e h = record { far = h .is; span = tt }
+  code-token-fair : (kind : Kind) (from : ℕ) (x : Skip) (d : ℕ) → isAttribute kind ≡ false → Sound cs at x → Fair o cs at (codeToken kind o from x d)
+  code-token-fair kind from (Past p m) d e h = let f = fair-deliver o cs at kind from p p m e (h .is) in record { far = f .far; span = f .span }
+  code-token-fair kind from (Lost r p m) d e h = record { far = h .is; span = tt }
 
   pub arrow-code-fair : (kind : Kind) → isAttribute kind ≡ false → Fair o cs at (arrowCode kind o cs at)
   unfolding arrowCode
-  arrow-code-fair kind e = code-token-fair kind at _ e (code-sound o cs at)
+  arrow-code-fair kind e = code-token-fair kind at _ _ e (code-sound o cs at)
 
   use-fair : Fair o cs at (useToken o cs at)
   unfolding useToken
-  use-fair = code-token-fair Use at _ refl (code-sound o cs at)
+  use-fair = code-token-fair Use at _ _ refl (code-sound o cs at)
 
 pub arrow-fair : (o : ℕ) (cs : List ℕ) (at : ℕ) → Fair o cs at (rightArrow o cs at)
 unfolding rightArrow

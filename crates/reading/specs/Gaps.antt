@@ -6,6 +6,7 @@ use lib.Dec.{eqb}
 use Rattle.utf8.specs.Chars.{'*, '/}
 use Rattle.utf8.specs.Utf8.{widthOf}
 use Rattle.unicode.specs.Whitespace.{isWhitespace}
+use Rattle.scan.specs.Depth.{walkDepth}
 use Rattle.scan.specs.Seek.{blockComment, lineSkip, skipMore}
 use Rattle.scan.specs.Walk.{turnOf, walk}
 use Rattle.scan.specs.declared.Skip.{Skip}
@@ -29,3 +30,7 @@ gapLast b at n = Past at n
 -- what stands before a token, from a place on
 unfoldable pub gap : List ℕ → ℕ → Skip
 gap cs at = walk gapTurn gapLast 0 cs at
+
+-- the greatest depth of the block comments in it
+abbrev pub gapDepth : List ℕ → ℕ → ℕ
+gapDepth cs at = walkDepth gapTurn cs at

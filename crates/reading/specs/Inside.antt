@@ -26,10 +26,10 @@ use Rattle.scan.specs.declared.Sought.the-variants.{Backtick, Hashes, Newline, 
 use Rattle.scan.specs.declared.Str.the-variants.{Plain}
 use Rattle.code.specs.Laws.{code-sound}
 use Rattle.code.specs.Near.{code-near}
-use Rattle.reading.specs.Answers.{deliver, more, plain, refuse}
+use Rattle.reading.specs.Answers.{deliver, more, plain, refuse, told, toldWhat}
 use Rattle.reading.specs.Attribute.{attempt, attributeToken, dropped, hash, hashBy}
 use Rattle.reading.specs.CallLaw.{Tried, attempt-tried}
-use Rattle.reading.specs.Gaps.{commentTurn, gap, gapLast, gapTurn}
+use Rattle.reading.specs.Gaps.{commentTurn, gap, gapDepth, gapLast, gapTurn}
 use Rattle.reading.specs.Next.{next, nextBy, starts, token, tokenOrEnd}
 use Rattle.reading.specs.Passes.{gap-sound}
 use Rattle.reading.specs.Quotes.{charLiteral, escape, lifetimeBy, lifetimeish, stringOrCharLiteral, stringLiteral}
@@ -142,17 +142,20 @@ module _ (P : ℕ → Type 0) (o : ℕ) (here : P o) where
     at-here = ahead-here P cs at a
 
     -- code
-    code-token-inside : (kind : Kind) (x : Skip) → Sound cs at x → Near o x → Inside P o (codeToken kind o at x)
-    code-token-inside kind (Past p m) s n = let g = far-on cs at m p (s .is) in inside-deliver kind at p p m h (omega arith) (omega arith) at-here (a .all m p (s .is))
-    code-token-inside kind (Lost r p m) s n = record { is = n .is; ends = tt }
+    code-token-inside : (kind : Kind) (x : Skip) (d : ℕ) → Sound cs at x → Near o x → Inside P o (codeToken kind o at x d)
+    code-token-inside kind (Past p m) d s n =
+        let g = far-on cs at m p (s .is) in
+        let i = inside-deliver kind at p p m h (omega arith) (omega arith) at-here (a .all m p (s .is)) in
+        record { is = i .is; ends = i .ends }
+    code-token-inside kind (Lost r p m) d s n = record { is = n .is; ends = tt }
 
     arrow-code-inside : (kind : Kind) → Inside P o (arrowCode kind o cs at)
     unfolding arrowCode
-    arrow-code-inside kind = code-token-inside kind _ (code-sound o cs at) (code-near o cs at h)
+    arrow-code-inside kind = code-token-inside kind _ _ (code-sound o cs at) (code-near o cs at h)
 
     use-inside : Inside P o (useToken o cs at)
     unfolding useToken
-    use-inside = code-token-inside _ _ (code-sound o cs at) (code-near o cs at h)
+    use-inside = code-token-inside _ _ _ (code-sound o cs at) (code-near o cs at h)
 
     id-inside : Inside P o (idToken o cs at)
     unfolding idToken
@@ -332,20 +335,26 @@ gap-near : (cs : List ℕ) (at : ℕ) → Near at (gap cs at)
 unfolding gap
 gap-near cs at = walk-near gapTurn gapLast at gap-turn-near (λ b p n h. near-past at p n h) 0 cs at (omega arith)
 
-lower : (o q : ℕ) (p : ℕ) (w : What) → o ≤ q → InsideIn q p w → InsideIn o p w
-lower o q p (Got t) h i = (omega arith, i .1, i .2, i .3, i .4)
-lower o q p (Error r) h i = (omega arith, i .1)
-lower o q p End h i = tt
+lower : (o q : ℕ) (p : ℕ) (g d : ℕ) (w : What) → o ≤ q → InsideIn q p w → InsideIn o p (toldWhat g d w)
+lower o q p g d (Got t) h i = (omega arith, i .1, i .2, i .3, i .4)
+lower o q p g d (Error r) h i = (omega arith, i .1)
+lower o q p g d End h i = tt
+
+told-ends : (P : ℕ → Type 0) (g d : ℕ) (w : What) → EndsIn P w → EndsIn P (toldWhat g d w)
+told-ends P g d (Got t) h = h
+told-ends P g d (Error r) h = h
+told-ends P g d End h = h
 
 -- of every call
 pub next-inside : (cs : List ℕ) (at : ℕ) → Inside (Reached cs at) at (next cs at)
-unfolding next more
+unfolding next more told
 next-inside cs at = go (gap cs at) (gap-near cs at) (gap-sound cs at)
   where
-    go : (x : Skip) → Near at x → Sound cs at x → Inside (Reached cs at) at (nextBy cs x)
+    go : (x : Skip) → Near at x → Sound cs at x → Inside (Reached cs at) at (nextBy cs x (gapDepth cs at))
     go (Past p m) n s =
         let g = far-on cs at m p (s .is) in
         let a = ahead-on (Reached cs at) cs at m p (ahead-reached cs at) (s .is) in
         let i = token-inside (Reached cs at) p (ahead-here (Reached cs at) (drop m cs) p a) (drop m cs) a in
-        record { is = lower at p (tokenOrEnd (drop m cs) p .at) (tokenOrEnd (drop m cs) p .what) (omega arith) (i .is); ends = i .ends }
+        let x = tokenOrEnd (drop m cs) p in
+        record { is = lower at p (x .at) _ _ (x .what) (omega arith) (i .is); ends = told-ends (Reached cs at) _ _ (x .what) (i .ends) }
     go (Lost r p m) n s = record { is = n .is; ends = tt }

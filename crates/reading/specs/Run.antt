@@ -5,7 +5,7 @@ use mathlib.Core.List.{List, [], _∷_}
 use lib.Dec.{ltb}
 use lib.ListN.{drop, length}
 use Rattle.utf8.specs.Utf8.{chars}
-use Rattle.record.specs.Records.{refusal, tokenOf}
+use Rattle.record.specs.Records.{refusal}
 use Rattle.record.specs.declared.Code.the-variants.{NoRoom, WorkLimit}
 use Rattle.record.specs.declared.Token.{Token}
 use Rattle.reading.specs.Next.{next}
@@ -19,7 +19,15 @@ use Rattle.reading.specs.declared.What.the-variants.{End, Error, Got}
 
 -- places carry the shift
 abbrev pub shiftToken : ℕ → Token → Token
-shiftToken k t = tokenOf (t .kind) (t .start + k) (t .end + k) (t .«payload_start» + k) (t .«payload_end» + k)
+shiftToken k t = record {
+  kind = t .kind;
+  start = t .start + k;
+  end = t .end + k;
+  «payload_start» = t .«payload_start» + k;
+  «payload_end» = t .«payload_end» + k;
+  «gap_depth» = t .«gap_depth»;
+  «code_depth» = t .«code_depth»;
+}
 
 abbrev pub shiftWhat : ℕ → What → What
 shiftWhat k (Got t) = Got (shiftToken k t)
@@ -36,26 +44,32 @@ doneBy End = Ended
 abbrev pub stepBy : ℕ → ℕ → Tokenizer → Call → Stepped
 stepBy shift limit t x =
     cond (ltb limit (t .count + x .advances))
-    (record { what = Error (refusal WorkLimit (t .at + shift)); next = t })
+    (record { what = Error (refusal WorkLimit (t .at + shift)); next = t; «gap_depth» = 0 })
     (record {
       what = shiftWhat shift (x .what);
       next = record { at = x .at; count = t .count + x .advances; done = doneBy (shiftWhat shift (x .what)) };
+      «gap_depth» = x .«gap_depth»;
     })
 
--- what a run answers: the tokens delivered, how it stopped, and the tokenizer afterwards
+-- what a run answers: the tokens delivered, how it stopped, the tokenizer afterwards, and how deep the comments of the last gap go
 pub record Run : Type 0 where
   pub tokens : List Token
   pub how : Outcome
   pub state : Tokenizer
+  pub last : ℕ
 
+-- 02, E4: "the last gap's stands beside the count, 0 unless the end is reached"
 abbrev pub stopped : Outcome → Tokenizer → Run
-stopped how t = record { tokens = []; how = how; state = t }
+stopped how t = record { tokens = []; how = how; state = t; last = 0 }
+
+abbrev pub ending : ℕ → Tokenizer → Run
+ending g t = record { tokens = []; how = Ended; state = t; last = g }
 
 abbrev pub also : Token → Run → Run
-also t r = record { tokens = t ∷ r .tokens; how = r .how; state = r .state }
+also t r = record { tokens = t ∷ r .tokens; how = r .how; state = r .state; last = r .last }
 
--- one turn of a run: t before the call, u after it, and the rest of the run
-module _ (rest : ℕ → Tokenizer → Run) (room : ℕ) (t u : Tokenizer) where
+-- one turn of a run: t before the call, u after it, g deep the gap's comments, and the rest of the run
+module _ (rest : ℕ → Tokenizer → Run) (room : ℕ) (t u : Tokenizer) (g : ℕ) where
   -- 14 exactly when the call yields a token and the list is full; the tokenizer is then as before that call
   abbrev pub put : Bool → Token → Run
   put true x = also x (rest (room - 1) u)
@@ -64,15 +78,15 @@ module _ (rest : ℕ → Tokenizer → Run) (room : ℕ) (t u : Tokenizer) where
   abbrev pub turn : What → Run
   turn (Got x) = put (ltb 0 room) x
   turn (Error r) = stopped (Refused r) u
-  turn End = stopped Ended u
+  turn End = ending g u
 
 -- over any call: the characters left, and the place of the first
 module _ (call : List ℕ → ℕ → Call) where
   -- 01: "Once a run has answered an error or the end, further calls repeat it with the same count and place"
   abbrev pub stepInWith : Outcome → List ℕ → ℕ → ℕ → Tokenizer → Stepped
   stepInWith Running s shift limit t = stepBy shift limit t (call (chars (drop (t .at) s)) (t .at))
-  stepInWith Ended s shift limit t = record { what = End; next = t }
-  stepInWith (Refused r) s shift limit t = record { what = Error r; next = t }
+  stepInWith Ended s shift limit t = record { what = End; next = t; «gap_depth» = 0 }
+  stepInWith (Refused r) s shift limit t = record { what = Error r; next = t; «gap_depth» = 0 }
 
   unfoldable pub stepWith : List ℕ → ℕ → ℕ → Tokenizer → Stepped
   stepWith s shift limit t = stepInWith (t .done) s shift limit t
@@ -81,7 +95,7 @@ module _ (call : List ℕ → ℕ → Call) where
     -- at most k calls
     unfoldable pub runFromWith : ℕ → ℕ → Tokenizer → Run
     runFromWith zero room t = stopped Running t
-    runFromWith (suc k) room t = turn (runFromWith k) room t (stepWith s shift limit t .next) (stepWith s shift limit t .what)
+    runFromWith (suc k) room t = turn (runFromWith k) room t (stepWith s shift limit t .next) (stepWith s shift limit t .«gap_depth») (stepWith s shift limit t .what)
 
   -- as many calls as bytes, and one more: they suffice where a token passes at least one byte, as each of `next` does
   unfoldable pub runWith : List ℕ → ℕ → ℕ → ℕ → Tokenizer → Run

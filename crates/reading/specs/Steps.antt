@@ -15,10 +15,12 @@ use Rattle.unicode.specs.Identifier.{isIdentifierStart}
 use Rattle.unicode.specs.Whitespace.{isWhitespace}
 use Rattle.record.specs.declared.Code.the-variants.{ExpectedStringLiteral, UnterminatedStringLiteral}
 use Rattle.record.specs.declared.Refusal.{Refusal}
+use Rattle.scan.specs.Deepens.{depth-calm, depth-stop}
+use Rattle.scan.specs.Depth.{depthFrom}
 use Rattle.scan.specs.Far.{Far, far-left, far-none, fits, lands}
 use Rattle.scan.specs.Passes.{seek-at, seek-none}
 use Rattle.scan.specs.Readers.{regDone, regStep}
-use Rattle.scan.specs.Runs.{byte-seen, neither, run, run-over}
+use Rattle.scan.specs.Runs.{byte-seen, neither, run, run-on, run-over}
 use Rattle.scan.specs.Seek.{blockComment, lineSkip, seek, skipMore}
 use Rattle.scan.specs.Steps.{reg-less}
 use Rattle.scan.specs.Turns.{walk-pass, walk-stop}
@@ -28,11 +30,11 @@ use Rattle.scan.specs.declared.Found.the-variants.{At, Nothing}
 use Rattle.scan.specs.declared.Skip.the-variants.{Lost, Past}
 use Rattle.scan.specs.declared.Sought.the-variants.{Hashes, Word}
 use Rattle.scan.specs.declared.Turn.the-variants.{Fail, Pass, Stop}
-use Rattle.reading.specs.Answers.{deliver, more, plain, refuse}
+use Rattle.reading.specs.Answers.{deliver, fail, more, plain, refuse, told}
 use Rattle.reading.specs.Attribute.{attempt, attributeToken, dropped, hash, hashBy}
 use Rattle.reading.specs.CallLaw.{LaidIn, Tried, attempt-tried, next-laid}
 use Rattle.reading.specs.Calls.{plain-taken}
-use Rattle.reading.specs.Gaps.{commentTurn, gap, gapLast, gapTurn}
+use Rattle.reading.specs.Gaps.{commentTurn, gap, gapDepth, gapLast, gapTurn}
 use Rattle.reading.specs.Measures.{isHash, wasted}
 use Rattle.reading.specs.Next.{next, starts, token, tokenOrEnd}
 use Rattle.reading.specs.Passes.{gap-good, gap-sound}
@@ -51,7 +53,7 @@ module _ {s : List ℕ} {at : ℕ} where
   unfolding tokenOrEnd
   token-on h = rw (h .next, h .width)
 
-  pub token-end : Ended s at → tokenOrEnd (left s at) at ≡ record { what = End; at = at; advances = 0 }
+  pub token-end : Ended s at → tokenOrEnd (left s at) at ≡ record { what = End; at = at; advances = 0; «gap_depth» = 0; «code_depth» = 0 }
   unfolding tokenOrEnd
   token-end h = rw (h .none)
 
@@ -66,13 +68,13 @@ module _ {s : List ℕ} {at : ℕ} where
 
 -- a reader, and then another at the place that it came to
 module _ (s : List ℕ) (at p m : ℕ) where
-  pub next-gap : gap (left s at) at ≡ Past p m → next (left s at) at ≡ more m (tokenOrEnd (left s p) p)
+  pub next-gap : gap (left s at) at ≡ Past p m → next (left s at) at ≡ told (gapDepth (left s at) at) (more m (tokenOrEnd (left s p) p))
   unfolding next
   next-gap e =
       let f : Far (left s at) at m p = (rw e at (gap-sound (left s at) at)) .is in
       rw (e, far-left s at m p f)
 
-  pub next-lost : (r : Refusal) → gap (left s at) at ≡ Lost r p m → next (left s at) at ≡ record { what = Error r; at = p; advances = m }
+  pub next-lost : (r : Refusal) → gap (left s at) at ≡ Lost r p m → next (left s at) at ≡ fail r p m
   unfolding next
   next-lost r e = rw e
 
@@ -232,6 +234,12 @@ gap-state k [] b b′ at n = refl
 gap-state zero (c ∷ cs) b b′ at n = refl
 gap-state (suc k) (c ∷ cs) b b′ at n = gap-state k cs b b′ (at + widthOf c) (n + 1)
 
+pub gap-level : (k : ℕ) (cs : List ℕ) (b b′ at d : ℕ) → depthFrom gapTurn k cs b at d ≡ depthFrom gapTurn k cs b′ at d
+unfolding depthFrom gapTurn
+gap-level k [] b b′ at d = refl
+gap-level zero (c ∷ cs) b b′ at d = refl
+gap-level (suc k) (c ∷ cs) b b′ at d = gap-level k cs b b′ (at + widthOf c) d
+
 -- a run of spaces below 128, for speed alone: the bytes that it stops at
 abbrev pub gapStop : ℕ → Bool
 gapStop x = leb 128 x || not (isWhitespace x)
@@ -246,11 +254,13 @@ not-false : (d : Bool) → not d ≡ false → d ≡ true
 not-false true e = refl
 not-false false e = sym e
 
+space-none : (x : ℕ) → isWhitespace x ≡ true → x ≡ 47 → ⊥
+space-none x w z = let u : false ≡ true = sym (ap isWhitespace z) ∙ w in let v : _≡_ {A = ℕ} 0 1 = cc in omega arith
+
 space-turn : (x : ℕ) (cs : List ℕ) (at next : ℕ) → isWhitespace x ≡ true → gapTurn 0 x cs at next ≡ Pass next 0 0
 unfolding gapTurn
 space-turn x cs at next w =
-    let n : x ≡ 47 → ⊥ = λ z. let u : false ≡ true = sym (ap isWhitespace z) ∙ w in let v : _≡_ {A = ℕ} 0 1 = cc in omega arith in
-    rw (ne-eqb x 47 n) (rw w)
+    rw (ne-eqb x 47 (space-none x w)) (rw w)
 
 stop-turn : (x : ℕ) (cs : List ℕ) (at next : ℕ) → (x ≡ 47 → ⊥) → isWhitespace x ≡ false → gapTurn 0 x cs at next ≡ Stop
 unfolding gapTurn
@@ -274,6 +284,45 @@ module _ (s : List ℕ) where
   pub gap-run : (from to n : ℕ) → to ≡ from + run gapStop (drop from s)
       → walkFrom gapTurn gapLast 0 (left s to) 0 to (n + (to - from)) ≡ walkFrom gapTurn gapLast 0 (left s from) 0 from n
   gap-run = run-over s gapStop (λ (at n : ℕ). walkFrom gapTurn gapLast 0 (left s at) 0 at n) gap-on
+
+  -- nor does it go deeper there
+  pub over-level : (at d : ℕ) → at < length s → getD s at 0 < 128 → (getD s at 0 ≡ 47 → ⊥) → isWhitespace (getD s at 0) ≡ false
+      → depthFrom gapTurn 0 (left s at) 0 at d ≡ d
+  over-level at d l a b w = depth-stop gapTurn (byte-seen s at l a) 0 d (stop-turn (getD s at 0) (left s (at + 1)) at (at + 1) b w)
+
+  level-on : (d at n : ℕ) → at < length s → gapStop (getD s at 0) ≡ false
+      → depthFrom gapTurn 0 (left s at) 0 at d ≡ depthFrom gapTurn 0 (left s (at + 1)) 0 (at + 1) d
+  level-on d at n l e =
+      let b = neither (leb 128 (getD s at 0)) (not (isWhitespace (getD s at 0))) e in
+      let h = byte-seen s at l (leb-false _ _ (b .0)) in
+      let w = not-false (isWhitespace (getD s at 0)) (b .1) in
+      let f : Far (left s (at + 1)) (at + 1) 0 (at + 1) = far-none _ _ in
+      depth-calm gapTurn h 0 d (space-turn (getD s at 0) (left s (at + 1)) at (at + 1) w) (lands 0 s (at + 1) (at + 1) f) (space-none (getD s at 0) w)
+
+  pub level-run : (d from to : ℕ) → to ≡ from + run gapStop (drop from s)
+      → depthFrom gapTurn 0 (left s to) 0 to d ≡ depthFrom gapTurn 0 (left s from) 0 from d
+  level-run d from to e = run-over s gapStop (λ (at n : ℕ). depthFrom gapTurn 0 (left s at) 0 at d) (level-on d) from to 0 e
+
+  -- the byte that such a run stops at: below 128 it is no whitespace
+  pub run-done : (from to : ℕ) → to ≡ from + run gapStop (drop from s) → to < length s → getD s to 0 < 128 → isWhitespace (getD s to 0) ≡ false
+  run-done from to e l a = go (isWhitespace (getD s to 0)) refl
+    where
+      -- a run from where a run ends is none
+      none : to + run gapStop (drop to s) ≡ from + run gapStop (drop from s)
+      none = run-over s gapStop (λ (at n : ℕ). at + run gapStop (drop at s)) (λ at n h q. omega (arith, run-on gapStop s at h q)) from to 0 e
+
+      go : (b : Bool) → isWhitespace (getD s to 0) ≡ b → isWhitespace (getD s to 0) ≡ false
+      go true q = absurd (omega (arith, none, run-on gapStop s to l (gap-near (getD s to 0) false a (ap not q))))
+      go false q = q
+
+  -- so one that starts no comment ends the gap
+  pub gap-ends : (from to : ℕ) → to ≡ from + run gapStop (drop from s) → to < length s → getD s to 0 < 128 → (getD s to 0 ≡ 47 → ⊥)
+      → (gap (left s from) from ≡ Past to (to - from)) × (gapDepth (left s from) from ≡ 0)
+  unfolding gap
+  gap-ends from to e l a n =
+      let w = run-done from to e l a in
+      let q : 0 + (to - from) ≡ to - from = omega arith in
+      (sym (rw q at (gap-run from to 0 e)) ∙ gap-over to (to - from) l a n w, sym (level-run 0 from to e) ∙ over-level to 0 l a n w)
 
 -- the dispatch: at a character that the rules name it computes; any other starts a longer symbol, a word or nothing
 pub token-starts : (c : ℕ) (cs : List ℕ) (o next : ℕ) → (c ≡ 35 → ⊥) → (c ≡ 38 → ⊥) → (c ≡ 44 → ⊥) → (c ≡ 62 → ⊥) → (c ≡ 123 → ⊥) → (c ≡ 91 → ⊥) → (c ≡ 40 → ⊥) → (c ≡ 60 → ⊥) → (c ≡ 43 → ⊥) → (c ≡ 63 → ⊥) → (c ≡ 125 → ⊥) → (c ≡ 93 → ⊥) → (c ≡ 41 → ⊥) → (c ≡ 59 → ⊥) → (c ≡ 42 → ⊥)

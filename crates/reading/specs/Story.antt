@@ -17,7 +17,7 @@ use Rattle.reading.specs.AnyCall.{sticky-end, sticky-error, turn-end, tu
 use Rattle.reading.specs.CallLaw.{Laid, LaidIn, Placed, next-laid}
 use Rattle.reading.specs.Gaps.{gap}
 use Rattle.reading.specs.Next.{next}
-use Rattle.reading.specs.Run.{Run, also, doneBy, run, runFrom, runFromWith, shiftToken, shiftWhat, step, stepBy, stepWith, stopped}
+use Rattle.reading.specs.Run.{Run, also, doneBy, ending, run, runFrom, runFromWith, shiftToken, shiftWhat, step, stepBy, stepWith, stopped}
 use Rattle.reading.specs.declared.Call.{Call}
 use Rattle.reading.specs.declared.Outcome.{Outcome}
 use Rattle.reading.specs.declared.Outcome.the-variants.{Ended, Refused, Running}
@@ -69,7 +69,7 @@ module _ (s : List ℕ) (shift limit : ℕ) where
     pub run-error : (z : Refusal) → step s shift limit t .what ≡ Error z → runFrom s shift limit (suc k) room t ≡ stopped (Refused z) (step s shift limit t .next)
     run-error = turn-error next s shift limit k room t
 
-    pub run-end : step s shift limit t .what ≡ End → runFrom s shift limit (suc k) room t ≡ stopped Ended (step s shift limit t .next)
+    pub run-end : step s shift limit t .what ≡ End → runFrom s shift limit (suc k) room t ≡ ending (step s shift limit t .«gap_depth») (step s shift limit t .next)
     run-end = turn-end next s shift limit k room t
 
   -- the step of a tokenizer that is running
@@ -81,11 +81,11 @@ module _ (s : List ℕ) (shift limit : ℕ) where
     unfolding stepWith call
     step-is = rw d
 
-    pub step-over : ltb limit (t .count + call t .advances) ≡ true → step s shift limit t ≡ record { what = Error (refusal WorkLimit (t .at + shift)); next = t }
+    pub step-over : ltb limit (t .count + call t .advances) ≡ true → step s shift limit t ≡ record { what = Error (refusal WorkLimit (t .at + shift)); next = t; «gap_depth» = 0 }
     step-over q = step-is ∙ rw q
 
     pub step-on : ltb limit (t .count + call t .advances) ≡ false
-        → step s shift limit t ≡ record { what = shiftWhat shift (call t .what); next = record { at = call t .at; count = t .count + call t .advances; done = doneBy (shiftWhat shift (call t .what)) } }
+        → step s shift limit t ≡ record { what = shiftWhat shift (call t .what); next = record { at = call t .at; count = t .count + call t .advances; done = doneBy (shiftWhat shift (call t .what)) }; «gap_depth» = call t .«gap_depth» }
     step-on q = step-is ∙ rw q
 
     laid : Laid (left s (t .at)) (t .at) (call t)
@@ -106,10 +106,10 @@ module _ (s : List ℕ) (shift limit : ℕ) where
         (not-running z (r .how) (ap (λ (x : Run). x .how) e))
         (ap (λ (x : Run). x .state .done) e ∙ d ∙ sym (ap (λ (x : Run). x .how) e))
 
-  as-finished : (k at n : ℕ) (r : Run) (u : Tokenizer) → r ≡ stopped Ended u → (p : ℕ) → gap (left s at) at ≡ Past p (length (left s at))
+  as-finished : (k at n : ℕ) (r : Run) (g : ℕ) (u : Tokenizer) → r ≡ ending g u → (p : ℕ) → gap (left s at) at ≡ Past p (length (left s at))
       → u .count ≡ n + length (left s at) → u .done ≡ Ended → Story s shift k at n r
-  as-finished k at n r u e p g c d =
-      finished p g (ap (λ (x : Run). x .tokens) e) (ap (λ (x : Run). x .state .count) e ∙ c) (end-not-running (r .how) (ap (λ (x : Run). x .how) e))
+  as-finished k at n r g u e p f c d =
+      finished p f (ap (λ (x : Run). x .tokens) e) (ap (λ (x : Run). x .state .count) e ∙ c) (end-not-running (r .how) (ap (λ (x : Run). x .how) e))
       (ap (λ (x : Run). x .state .done) e ∙ d ∙ sym (ap (λ (x : Run). x .how) e))
 
   module _ (k room : ℕ) (t : Tokenizer) (d : t .done ≡ Running)
@@ -145,7 +145,7 @@ module _ (s : List ℕ) (shift limit : ℕ) where
           (ap (λ (u : Tokenizer). u .count) (next-is (Error z) v))
           (ap (λ (u : Tokenizer). u .done) (next-is (Error z) v))
       tell-on End v h =
-          as-finished (suc k) (t .at) (t .count) _ (step s shift limit t .next) (run-end k room t (what-is End v)) (call t .at) (rw (h .1) at (h .0))
+          as-finished (suc k) (t .at) (t .count) _ _ (step s shift limit t .next) (run-end k room t (what-is End v)) (call t .at) (rw (h .1) at (h .0))
           (ap (λ (u : Tokenizer). u .count) (next-is End v) ∙ ap (λ (j : ℕ). t .count + j) (h .1))
           (ap (λ (u : Tokenizer). u .done) (next-is End v))
 

@@ -10,7 +10,7 @@ use Rattle.record.specs.declared.Code.the-variants.{HalfSymbol, StrayCharacter,
 use Rattle.record.specs.declared.Kind.{Kind}
 use Rattle.record.specs.declared.Kind.the-variants.{Ampersand, Bang, BangEquals, BangTilde, Colon, ColonColon, Comma, DotDot, Equals, EqualsEquals, EqualsGreaterThanCode, EqualsGreaterThanLookahead, EqualsGreaterThanLookbehind, EqualsGreaterThanQuestionCode, GreaterThan, LeftBrace, LeftBracket, LeftParen, LessThan, Lookahead, Lookbehind, MinusGreaterThan, Plus, Question, RightBrace, RightBracket, RightParen, Semi, Star, TildeTilde}
 use Rattle.scan.specs.IfNext.{ifNext}
-use Rattle.code.specs.Code.{codeEnd}
+use Rattle.code.specs.Code.{codeDepth, codeEnd}
 use Rattle.reading.specs.Answers.{more, plain, refuse}
 use Rattle.reading.specs.Words.{codeToken}
 use Rattle.reading.specs.declared.Call.{Call}
@@ -57,7 +57,7 @@ arrowLook o cs at =
     ifNext 'L cs (plain EqualsGreaterThanLookahead o (at + 1) 1) (ifNext 'R cs (plain EqualsGreaterThanLookbehind o (at + 1) 1) (half o at))
 
 unfoldable pub arrowCode : Kind → ℕ → List ℕ → ℕ → Call
-arrowCode kind o cs at = codeToken kind o at (codeEnd o cs at)
+arrowCode kind o cs at = codeToken kind o at (codeEnd o cs at) (codeDepth cs at)
 
 -- after =>. 01: "`=>` at the end of text is 8"
 unfoldable pub rightArrow : ℕ → List ℕ → ℕ → Call

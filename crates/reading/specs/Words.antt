@@ -15,10 +15,9 @@ use Rattle.scan.specs.declared.Found.the-variants.{At, Nothing}
 use Rattle.scan.specs.declared.Skip.{Skip}
 use Rattle.scan.specs.declared.Skip.the-variants.{Lost, Past}
 use Rattle.scan.specs.declared.Sought.the-variants.{Word}
-use Rattle.code.specs.Code.{codeEnd}
-use Rattle.reading.specs.Answers.{deliver, more, plain}
+use Rattle.code.specs.Code.{codeDepth, codeEnd}
+use Rattle.reading.specs.Answers.{coded, deliver, fail, more, plain}
 use Rattle.reading.specs.declared.Call.{Call}
-use Rattle.reading.specs.declared.What.the-variants.{Error}
 
 -- the characters cs, from the place at up to the place p, are those of the word ks
 unfoldable pub spells : List ℕ → List ℕ → ℕ → ℕ → Bool
@@ -46,12 +45,13 @@ keywords =
     ∷ ('f ∷ 'o ∷ 'r ∷ [], For) ∷ ('d ∷ 'y ∷ 'n ∷ [], Dyn) ∷ []
 
 -- "use, => and =>? take code": a token with code from the place from on, up to where the code ends
-abbrev pub codeToken : Kind → ℕ → ℕ → Skip → Call
-codeToken kind o from (Past p m) = deliver kind o from p p m
-codeToken kind o from (Lost r p m) = record { what = Error r; at = p; advances = m }
+-- and whose comments go d deep
+abbrev pub codeToken : Kind → ℕ → ℕ → Skip → ℕ → Call
+codeToken kind o from (Past p m) d = coded d (deliver kind o from p p m)
+codeToken kind o from (Lost r p m) d = fail r p m
 
 unfoldable pub useToken : ℕ → List ℕ → ℕ → Call
-useToken o rest p = codeToken Use o p (codeEnd o rest p)
+useToken o rest p = codeToken Use o p (codeEnd o rest p) (codeDepth rest p)
 
 -- no keyword: "MacroId if < follows at once, else Id"
 unfoldable pub idToken : ℕ → List ℕ → ℕ → Call

@@ -2,7 +2,7 @@
 use utf8::Utf8;
 ghost use mathlib.Core.Path.{_≡_};
 ghost use Rattle.record.specs.Numbers.{kindNumber, codeNumber, kindOf};
-ghost use Rattle.record.specs.Records.{tokenOf};
+ghost use Rattle.record.specs.Records.{toldNumber, tokenOf};
 ghost use Rattle.record.specs.Checks.{checks};
 ghost use Rattle.record.specs.Rust.{rustNumber};
 
@@ -103,12 +103,21 @@ pub struct Refusal {
     pub place: u64,
 }
 
+// What a record tells besides, or that it is not known: so in a record that was read from a file.
+pub enum Told {
+    Is(u64),
+    Unknown,
+}
+
+// A token: its kind, its places, and the greatest depth of the block comments in the gap before it and in its code.
 pub struct Token {
     pub kind: Kind,
     pub start: u64,
     pub end: u64,
     pub payload_start: u64,
     pub payload_end: u64,
+    pub gap_depth: Told,
+    pub code_depth: Told,
 }
 
 // The kind that has a number, if there is one.
@@ -303,7 +312,17 @@ pub fn kind_of(n: u8) -> Known
     Known::Kind(k)
 }
 
-// A token's record. The reading makes it here and nowhere else.
+// The number for what is told: the highest of all where it is not known.
+pub fn told_number(t: Told) -> u64
+    ensures { λ r. ⌜ r ≡ toldNumber t ⌝ }
+{
+    match t {
+        Told::Is(n) => n,
+        Told::Unknown => 18446744073709551615,
+    }
+}
+
+// A token's record, without what only a run can tell. The reading makes it here and nowhere else.
 pub fn token_of(kind: Kind, start: u64, end: u64, from: u64, to: u64) -> Token
     ensures { λ r. ⌜ r ≡ tokenOf kind start end from to ⌝ }
 {
@@ -313,6 +332,8 @@ pub fn token_of(kind: Kind, start: u64, end: u64, from: u64, to: u64) -> Token
         end,
         payload_start: from,
         payload_end: to,
+        gap_depth: Told::Unknown,
+        code_depth: Told::Unknown,
     }
 }
 

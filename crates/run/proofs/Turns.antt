@@ -42,7 +42,7 @@ no e = let z : _≡_ {A = ℕ} 0 1 = cc in absurd (omega arith)
 module _ (s : List ℕ) (shift limit room : ℕ) where
   abbrev pub onwardBy : Bool → ℕ → Pending → Run
   onwardBy true k p = also (p .token) (runFrom s shift limit k (room - (p .ran .stored + 1)) (p .ran .state))
-  onwardBy false k p = stopped (p .ran .how) (p .ran .state)
+  onwardBy false k p = record { tokens = []; how = p .ran .how; state = p .ran .state; last = p .ran .«last_depth» }
 
   unfoldable pub onward : ℕ → Pending → Run
   onward k p = onwardBy (p .going) k p
@@ -61,7 +61,7 @@ module _ (s : List ℕ) (shift limit room : ℕ) where
     got-run k x u false q f g = let l = ltb-false n room q in g (le-ltb 0 (room - n) (omega arith))
 
     by-run : (k : ℕ) (w : What) → step s shift limit t .what ≡ w
-        → runFrom s shift limit (suc k) (room - n) t ≡ onward k (pendBy w room n t (step s shift limit t .next))
+        → runFrom s shift limit (suc k) (room - n) t ≡ onward k (pendBy w room n t (step s shift limit t .next) (step s shift limit t .«gap_depth»))
     unfolding onward
     by-run k (Got x) e = got-run k x (step s shift limit t .next) (ltb n room) refl (λ q. run-got s shift limit k (room - n) t x e q) (λ q. run-full s shift limit k (room - n) t x e q)
     by-run k (Error r) e = run-error s shift limit k (room - n) t r e
@@ -79,17 +79,17 @@ module _ (s : List ℕ) (shift limit room : ℕ) where
     got-goes x u how true q = (refl, refl, λ e. (ltb-true n room q, refl))
     got-goes x u how false q = (refl, refl, λ e. no e)
 
-    by-goes : (w : What) (u : Tokenizer) → Goes u (pendBy w room n t u)
-    by-goes (Got x) u = got-goes x u (Refused (refusal NoRoom (x .start))) (ltb n room) refl
-    by-goes (Error r) u = (refl, refl, λ e. no e)
-    by-goes End u = (refl, refl, λ e. no e)
+    by-goes : (w : What) (u : Tokenizer) (g : ℕ) → Goes u (pendBy w room n t u g)
+    by-goes (Got x) u g = got-goes x u (Refused (refusal NoRoom (x .start))) (ltb n room) refl
+    by-goes (Error r) u g = (refl, refl, λ e. no e)
+    by-goes End u g = (refl, refl, λ e. no e)
 
     pub pend-goes : Goes (step s shift limit t .next) (pendOf s shift limit room n t)
     unfolding pendOf
-    pend-goes = by-goes (step s shift limit t .what) (step s shift limit t .next)
+    pend-goes = by-goes (step s shift limit t .what) (step s shift limit t .next) (step s shift limit t .«gap_depth»)
 
     -- .. and it runs
-    by-runs : (w : What) → step s shift limit t .what ≡ w → pendBy w room n t (step s shift limit t .next) .going ≡ true → step s shift limit t .next .done ≡ Running
+    by-runs : (w : What) → step s shift limit t .what ≡ w → pendBy w room n t (step s shift limit t .next) (step s shift limit t .«gap_depth») .going ≡ true → step s shift limit t .next .done ≡ Running
     by-runs (Got y) e g = step-runs s shift limit t y e
     by-runs (Error r) e g = no g
     by-runs End e g = no g
@@ -190,7 +190,7 @@ module _ (s : List ℕ) (shift limit room : ℕ) (t₀ : Tokenizer) where
       }
     where
       shuffle : (ds : List Token) (r : Run) → before (ds ++ (p .token ∷ [])) r ≡ before ds (also (p .token) r)
-      shuffle ds r = ap (λ (y : List Token). record { tokens = y; how = r .how; state = r .state }) (append-snoc ds (p .token) (r .tokens))
+      shuffle ds r = ap (λ (y : List Token). record { tokens = y; how = r .how; state = r .state; last = r .last }) (append-snoc ds (p .token) (r .tokens))
 
   pub advance-stored : (p : Pending) → advanceOf s shift limit room p .ran .stored ≡ p .ran .stored + 1
   unfolding advanceOf
@@ -205,7 +205,8 @@ module _ (s : List ℕ) (shift limit room : ℕ) (t₀ : Tokenizer) where
       let n : p .ran .stored ≡ length (wholeRun s shift limit room t₀ .tokens) = i .stored-is ∙ ap length d in
       let w : p .ran .how ≡ wholeRun s shift limit room t₀ .how = ap (λ (r : Run). r .how) h in
       let u : p .ran .state ≡ wholeRun s shift limit room t₀ .state = ap (λ (r : Run). r .state) h in
-      (rw (← n, ← w, ← u, ← (i .counted)), d)
+      let g : p .ran .«last_depth» ≡ wholeRun s shift limit room t₀ .last = ap (λ (r : Run). r .last) h in
+      (rw (← n, ← w, ← u, ← g, ← (i .counted)), d)
 
 -- ---- the same with a lent list of records: it was xs, and is ys
 pub record Inv (s : List ℕ) (shift limit : ℕ) (xs : List Token) (t₀ : Tokenizer) (k : ℕ) (p : Pending) (ys : List Token) : Type 0 where

@@ -23,17 +23,17 @@ abbrev pub countIf : Checked → ℕ → ℕ
 countIf Passed n = n
 countIf (Stopped r) n = 0
 
--- what a run reports: how many records it stored, how it stopped, the advances, and the tokenizer afterwards
+-- what a run reports: how many records it stored, how it stopped, the advances, the tokenizer afterwards, and how deep the last gap goes
 abbrev pub report : Checked → Run → Ran
-report c r = record { stored = length (r .tokens); how = r .how; advances = countIf c (r .state .count); state = r .state }
+report c r = record { stored = length (r .tokens); how = r .how; advances = countIf c (r .state .count); state = r .state; «last_depth» = r .last }
 
 -- over any call: the characters left, and the place of the first
 module _ (call : List ℕ → ℕ → Call) where
   -- 01: "A public single call repeats the checks, then answers 20, nothing changed, for a cursor off its text's boundaries."
   abbrev pub stepIfWith : Checked → List ℕ → ℕ → ℕ → Tokenizer → Stepped
   stepIfWith Passed s shift limit t =
-      cond (boundary s (t .at)) (stepWith call s shift limit t) (record { what = Error (refusal BadRecord 0); next = t })
-  stepIfWith (Stopped r) s shift limit t = record { what = Error r; next = t }
+      cond (boundary s (t .at)) (stepWith call s shift limit t) (record { what = Error (refusal BadRecord 0); next = t; «gap_depth» = 0 })
+  stepIfWith (Stopped r) s shift limit t = record { what = Error r; next = t; «gap_depth» = 0 }
 
   unfoldable pub nextTokenWith : List ℕ → ℕ → ℕ → Tokenizer → Stepped
   nextTokenWith s shift limit t = stepIfWith (checks s shift) s shift limit t

@@ -34,20 +34,24 @@ noToken = tokenOf Enum 0 0 0 0
 
 -- the run stops, with n tokens stored, at the tokenizer t
 abbrev pub halted : ℕ → Outcome → ℕ → Tokenizer → Pending
-halted n how count t = record { going = false; token = noToken; ran = record { stored = n; how = how; advances = count; state = t } }
+halted n how count t = record { going = false; token = noToken; ran = record { stored = n; how = how; advances = count; state = t; «last_depth» = 0 } }
+
+-- the run reaches the end, after a gap whose comments go g deep
+abbrev pub ended : ℕ → Tokenizer → ℕ → Pending
+ended n t g = record { going = false; token = noToken; ran = record { stored = n; how = Ended; advances = t .count; state = t; «last_depth» = g } }
 
 -- a token is to be stored after n others; then the tokenizer is t
 abbrev pub goes : ℕ → Token → Tokenizer → Pending
-goes n x t = record { going = true; token = x; ran = record { stored = n; how = Running; advances = t .count; state = t } }
+goes n x t = record { going = true; token = x; ran = record { stored = n; how = Running; advances = t .count; state = t; «last_depth» = 0 } }
 
--- the tokenizer t before the call, and u after it
-abbrev pub pendBy : What → ℕ → ℕ → Tokenizer → Tokenizer → Pending
-pendBy (Got x) room n t u = cond (ltb n room) (goes n x u) (halted n (Refused (refusal NoRoom (x .start))) (t .count) t)
-pendBy (Error r) room n t u = halted n (Refused r) (u .count) u
-pendBy End room n t u = halted n Ended (u .count) u
+-- the tokenizer t before the call, u after it, and g deep the gap's comments
+abbrev pub pendBy : What → ℕ → ℕ → Tokenizer → Tokenizer → ℕ → Pending
+pendBy (Got x) room n t u g = cond (ltb n room) (goes n x u) (halted n (Refused (refusal NoRoom (x .start))) (t .count) t)
+pendBy (Error r) room n t u g = halted n (Refused r) (u .count) u
+pendBy End room n t u g = ended n u g
 
 unfoldable pub pendOf : List ℕ → ℕ → ℕ → ℕ → ℕ → Tokenizer → Pending
-pendOf s shift limit room n t = pendBy (step s shift limit t .what) room n t (step s shift limit t .next)
+pendOf s shift limit room n t = pendBy (step s shift limit t .what) room n t (step s shift limit t .next) (step s shift limit t .«gap_depth»)
 
 abbrev pub beginIf : Checked → List ℕ → ℕ → ℕ → ℕ → Tokenizer → Pending
 beginIf Passed s shift limit room t = cond (boundary s (t .at)) (pendOf s shift limit room 0 t) (halted 0 (Refused (refusal BadRecord 0)) (t .count) t)

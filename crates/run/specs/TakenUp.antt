@@ -31,7 +31,7 @@ use Rattle.run.specs.Steps.{got-end, got-error}
 
 -- the tokens ts before those of a run
 abbrev pub before : List Token → Run → Run
-before ts r = record { tokens = ts ++ r .tokens; how = r .how; state = r .state }
+before ts r = record { tokens = ts ++ r .tokens; how = r .how; state = r .state; last = r .last }
 
 -- ---- a step that goes on, under a higher limit, and one that stops
 module _ (call : List ℕ → ℕ → Call) (s : List ℕ) (shift limit limit′ : ℕ) (h : limit ≤ limit′) (t : Tokenizer) where
@@ -109,8 +109,8 @@ module _ (call : List ℕ → ℕ → Call) (s : List ℕ) (shift limit limit′
   abbrev Along : ℕ → Tokenizer → Run → Type 0
   Along k t r = runFromWith call s shift limit′ k (length (r .tokens) + room′) t ≡ before (r .tokens) (runFromWith call s shift limit′ (k - length (r .tokens)) room′ (r .state))
 
-  at-once : (k : ℕ) (t u : Tokenizer) (how : Outcome) → u ≡ t → Along k t (stopped how u)
-  at-once k t u how e =
+  at-once : (k : ℕ) (t u : Tokenizer) (how : Outcome) (g : ℕ) → u ≡ t → Along k t (record { tokens = []; how = how; state = u; last = g })
+  at-once k t u how g e =
       let z : k - 0 ≡ k = omega arith in
       let w : 0 + room′ ≡ room′ = omega arith in
       rw (e, z, w)
@@ -118,7 +118,7 @@ module _ (call : List ℕ → ℕ → Call) (s : List ℕ) (shift limit limit′
   along : (k j room : ℕ) (t : Tokenizer) (r : Run) → runFromWith call s shift limit k room t ≡ r → r .state .done ≡ Running
       → (runFromWith call s shift limit′ j (length (r .tokens) + room′) t .how ≡ Running → ⊥) → Along j t r
   unfolding runFromWith
-  along zero j room t r e d f = rw (← e) (at-once j t t Running refl)
+  along zero j room t r e d f = rw (← e) (at-once j t t Running 0 refl)
   along (suc k) j room t r e d f = go (λ i m v r₁ a b c. along k i m v r₁ a b c) (stepWith call s shift limit t .what) refl
     where
       Again : Type 0
@@ -127,8 +127,8 @@ module _ (call : List ℕ → ℕ → Call) (s : List ℕ) (shift limit limit′
       u : Tokenizer
       u = stepWith call s shift limit t .next
 
-      stay : (how : Outcome) → r ≡ stopped how u → ((y : Token) → stepWith call s shift limit t .what ≡ Got y → ⊥) → Along j t r
-      stay how q g = rw q (at-once j t u how (step-stays call s shift limit t g (ap (λ (x : Run). x .state .done) (sym q) ∙ d)))
+      stay : (how : Outcome) (g : ℕ) → r ≡ record { tokens = []; how = how; state = u; last = g } → ((y : Token) → stepWith call s shift limit t .what ≡ Got y → ⊥) → Along j t r
+      stay how l q g = rw q (at-once j t u how l (step-stays call s shift limit t g (ap (λ (x : Run). x .state .done) (sym q) ∙ d)))
 
       more : Again → (y : Token) → stepWith call s shift limit t .what ≡ Got y → (i : ℕ) → j ≡ i → (r₁ : Run) → runFromWith call s shift limit k (room - 1) u ≡ r₁ → r ≡ also y r₁ → Along j t r
       more ih y w zero i r₁ e₁ q = absurd (f (rw i))
@@ -148,12 +148,12 @@ module _ (call : List ℕ → ℕ → Call) (s : List ℕ) (shift limit limit′
 
       some : Again → (y : Token) → stepWith call s shift limit t .what ≡ Got y → (b : Bool) → ltb 0 room ≡ b → Along j t r
       some ih y w true b = more ih y w j refl (runFromWith call s shift limit k (room - 1) u) refl (sym e ∙ turn-got call s shift limit k room t y w b)
-      some ih y w false b = rw (sym e ∙ turn-full call s shift limit k room t y w b) (at-once j t t (Refused (refusal NoRoom (y .start))) refl)
+      some ih y w false b = rw (sym e ∙ turn-full call s shift limit k room t y w b) (at-once j t t (Refused (refusal NoRoom (y .start))) 0 refl)
 
       go : Again → (w : What) → stepWith call s shift limit t .what ≡ w → Along j t r
       go ih (Got y) w = some ih y w (ltb 0 room) refl
-      go ih (Error z) w = stay (Refused z) (sym e ∙ turn-error call s shift limit k room t z w) (λ y g. got-error y z (sym w ∙ g))
-      go ih End w = stay Ended (sym e ∙ turn-end call s shift limit k room t w) (λ y g. got-end y (sym w ∙ g))
+      go ih (Error z) w = stay (Refused z) 0 (sym e ∙ turn-error call s shift limit k room t z w) (λ y g. got-error y z (sym w ∙ g))
+      go ih End w = stay Ended _ (sym e ∙ turn-end call s shift limit k room t w) (λ y g. got-end y (sym w ∙ g))
 
 -- ---- over any call: a run that leaves the tokenizer running is taken up, where the run that was never stopped does not lack calls
 module _ (call : List ℕ → ℕ → Call) (s : List ℕ) (shift limit limit′ room room′ : ℕ) (t : Tokenizer) (h : limit ≤ limit′) where

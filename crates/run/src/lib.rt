@@ -17,22 +17,33 @@ ghost use lib.Seq.{sets};
 ghost use Rattle.utf8.specs.Utf8.{boundary, chars};
 ghost use Rattle.record.specs.Checks.{checks};
 ghost use Rattle.record.specs.declared.Checked.the-variants.{Passed};
-ghost use Rattle.record.specs.Records.{over};
+ghost use Rattle.record.specs.declared.Code.the-variants.{NoRoom, WorkLimit};
+ghost use Rattle.record.specs.Records.{over, refusal};
 ghost use Rattle.reading.specs.Next.{next};
 ghost use Rattle.reading.specs.Run.{doneBy, shiftToken, shiftWhat, step, stepBy};
+ghost use Rattle.reading.specs.declared.Outcome.the-variants.{Ended, Refused};
 ghost use Rattle.reading.specs.declared.What.the-variants.{Got};
+ghost use Rattle.run.specs.declared.Group.the-variants.{Nine};
 ghost use Rattle.run.specs.Checked.{nextToken, ranOf, wholeRun};
-ghost use Rattle.run.specs.Numbers.{groupSize, numbersAll, numbersOf};
+ghost use Rattle.run.specs.Numbers.{groupOf, groupSize, groups, numbersAll, numbersOf, sizeOf, toldOf};
 ghost use Rattle.run.specs.Payload.{isPayload, payload, payloadCheck};
-ghost use Rattle.run.specs.Pending.{advanceOf, beginOf, goes, halted, pendOf, running};
+ghost use Rattle.run.specs.Pending.{advanceOf, beginOf, ended, goes, halted, pendOf, running};
 ghost use Rattle.run.specs.Room.{Onward, Ready, Roomy, RoomyIn};
 
-// How a run ended: how many records it stored, how it stopped, the advances, and the tokenizer after it.
+// How a run ended: how many records it stored, how it stopped, the advances, the tokenizer after it, and how deep the comments go in the gap that it
+// read before the end; 0 if it read none or stopped otherwise.
 pub struct Ran {
     pub stored: usize,
     pub how: Outcome,
     pub advances: u64,
     pub state: Tokenizer,
+    pub last_depth: u64,
+}
+
+// How many numbers a record takes where it is laid out in numbers: the five of 01, or nine, with what a run tells besides.
+pub enum Group {
+    Five,
+    Nine,
 }
 
 // A token that is read and not stored yet, or, where it is not going, the end of the run.
@@ -41,6 +52,9 @@ pub struct Pending {
     pub token: Token,
     pub ran: Ran,
 }
+
+// The number of what is not told.
+const NOT_TOLD: u64 = 18446744073709551615;
 
 // Whether finishing a call would take the advances above the work limit.
 fn exceeds(limit: u64, count: u64, advances: u64) -> bool
@@ -58,13 +72,17 @@ fn shift_token(shift: u64, t: Token) -> Token
     ensures { λ r. ⌜ r ≡ shiftToken shift t ⌝ }
 {
     let kind = t.kind;
-    record::token_of(
+    let gap = t.gap_depth;
+    let code = t.code_depth;
+    Token {
         kind,
-        t.start + shift,
-        t.end + shift,
-        t.payload_start + shift,
-        t.payload_end + shift,
-    )
+        start: t.start + shift,
+        end: t.end + shift,
+        payload_start: t.payload_start + shift,
+        payload_end: t.payload_end + shift,
+        gap_depth: gap,
+        code_depth: code,
+    }
 }
 
 // An answer's places, with the shift.
@@ -113,6 +131,7 @@ fn read_on(text: &[u8], shift: u64, limit: u64, t: Tokenizer) -> Stepped
                 place: at + shift,
             }),
             next: t,
+            gap_depth: 0,
         };
     }
     let what = x.what;
@@ -124,6 +143,7 @@ fn read_on(text: &[u8], shift: u64, limit: u64, t: Tokenizer) -> Stepped
             count: count + advances,
             done: done_by(shifted),
         },
+        gap_depth: x.gap_depth,
     }
 }
 
@@ -138,10 +158,12 @@ fn step(text: &[u8], shift: u64, limit: u64, t: Tokenizer) -> Stepped
         Outcome::Ended => Stepped {
             what: What::End,
             next: t,
+            gap_depth: 0,
         },
         Outcome::Refused(r) => Stepped {
             what: What::Error(r),
             next: t,
+            gap_depth: 0,
         },
     }
 }
@@ -162,11 +184,13 @@ pub fn next_token(text: &[u8], shift: u64, limit: u64, t: Tokenizer) -> Stepped
                     place: 0,
                 }),
                 next: t,
+                gap_depth: 0,
             }
         }
         Checked::Refused(r) => Stepped {
             what: What::Error(r),
             next: t,
+            gap_depth: 0,
         },
     }
 }
@@ -183,6 +207,24 @@ fn halted(n: usize, how: Outcome, advances: u64, t: Tokenizer) -> Pending
             how,
             advances,
             state: t,
+            last_depth: 0,
+        },
+    }
+}
+
+// The run reaches the end, with n records stored, at the tokenizer t, after a gap whose comments go g deep.
+fn ended(n: usize, t: Tokenizer, g: u64) -> Pending
+    ensures { λ r. ⌜ r ≡ ended n t g ⌝ }
+{
+    Pending {
+        going: false,
+        token: record::token_of(Kind::Enum, 0, 0, 0, 0),
+        ran: Ran {
+            stored: n,
+            how: Outcome::Ended,
+            advances: t.count,
+            state: t,
+            last_depth: g,
         },
     }
 }
@@ -199,6 +241,7 @@ fn goes(n: usize, token: Token, t: Tokenizer) -> Pending
             how: Outcome::Running,
             advances: t.count,
             state: t,
+            last_depth: 0,
         },
     }
 }
@@ -223,7 +266,7 @@ fn pend(text: &[u8], shift: u64, limit: u64, room: usize, n: usize, t: Tokenizer
             halted(n, full, t.count, t)
         }
         What::Error(r) => halted(n, Outcome::Refused(r), after.count, after),
-        What::End => halted(n, Outcome::Ended, after.count, after),
+        What::End => ended(n, after, s.gap_depth),
     }
 }
 
@@ -323,15 +366,21 @@ pub fn payload<'a>(text: &'a [u8], shift: u64, t: Token) -> &'a [u8]
     &text[..0]
 }
 
-// How many numbers a record takes: kind, start, end, payload start, payload end.
-const GROUP_SIZE: usize = 5;
-
-// A record as five numbers, after i others.
-fn put_group(records: &mut [u64], i: usize, t: Token)
-    requires { ⌜ groupSize * (i + 1) ≤ length (now records) ⌝ }
-    ensures { λ _. ⌜ now (records .exit) ≡ sets (now (records .entry)) (groupSize * i) (numbersOf t) ⌝ }
+// How many numbers a group has.
+fn group_size(g: Group) -> usize
+    ensures { λ r. ⌜ (r ≡ sizeOf g) × (0 < r) × (r ≤ 9) ⌝ }
 {
-    let p = GROUP_SIZE * i;
+    match g {
+        Group::Five => 5,
+        Group::Nine => 9,
+    }
+}
+
+// A record's five numbers, from a place on.
+fn put_five(records: &mut [u64], p: usize, t: Token)
+    requires { ⌜ p + 5 ≤ length (now records) ⌝ }
+    ensures { λ _. ⌜ now (records .exit) ≡ sets (now (records .entry)) p (numbersOf t) ⌝ }
+{
     let kind = t.kind;
     records[p] = record::kind_number(kind) as u64;
     records[p + 1] = t.start;
@@ -340,53 +389,166 @@ fn put_group(records: &mut [u64], i: usize, t: Token)
     records[p + 4] = t.payload_end;
 }
 
+// What a run tells besides, from a place on. Two numbers are not told yet.
+fn put_told(records: &mut [u64], p: usize, t: Token)
+    requires { ⌜ p + 4 ≤ length (now records) ⌝ }
+    ensures { λ _. ⌜ now (records .exit) ≡ sets (now (records .entry)) p (toldOf t) ⌝ }
+{
+    let gap = t.gap_depth;
+    let code = t.code_depth;
+    records[p] = record::told_number(gap);
+    records[p + 1] = record::told_number(code);
+    records[p + 2] = NOT_TOLD;
+    records[p + 3] = NOT_TOLD;
+}
+
+// A record as a group of numbers, from a place on.
+fn put_group(records: &mut [u64], p: usize, g: Group, t: Token)
+    requires { ⌜ p + sizeOf g ≤ length (now records) ⌝ }
+    ensures { λ _. ⌜ now (records .exit) ≡ sets (now (records .entry)) p (groupOf g t) ⌝ }
+{
+    put_five(records, p, t);
+    match g {
+        Group::Five => {}
+        Group::Nine => {
+            put_told(records, p + 5, t);
+        }
+    }
+}
+
+// The next call would go above the work limit: the tokenizer is as before it.
+fn over_limit(n: usize, shift: u64, at: u64, count: u64) -> Ran
+    requires { ⌜ at + shift < 0x10000000000000000 ⌝ }
+    ensures { λ r. ⌜ r ≡ halted n (Refused (refusal WorkLimit (at + shift))) count (running at count) .ran ⌝ }
+{
+    let how = Outcome::Refused(Refusal {
+        code: Code::WorkLimit,
+        place: at + shift,
+    });
+    let t = Tokenizer {
+        at,
+        count,
+        done: Outcome::Running,
+    };
+    let p = halted(n, how, count, t);
+    p.ran
+}
+
+// There is no room for the token from `start` on: the tokenizer is as before it.
+fn full(n: usize, shift: u64, start: u64, at: u64, count: u64) -> Ran
+    requires { ⌜ start + shift < 0x10000000000000000 ⌝ }
+    ensures { λ r. ⌜ r ≡ halted n (Refused (refusal NoRoom (start + shift))) count (running at count) .ran ⌝ }
+{
+    let how = Outcome::Refused(Refusal {
+        code: Code::NoRoom,
+        place: start + shift,
+    });
+    let t = Tokenizer {
+        at,
+        count,
+        done: Outcome::Running,
+    };
+    let p = halted(n, how, count, t);
+    p.ran
+}
+
+// The call answers an error: the tokenizer keeps it.
+fn lost(n: usize, shift: u64, e: Refusal, at: u64, count: u64) -> Ran
+    requires { ⌜ e .place + shift < 0x10000000000000000 ⌝ }
+    ensures { λ r. ⌜ r ≡ halted n (Refused (refusal (e .code) (e .place + shift))) count (record { at = at; count = count; done = Refused (refusal (e .code) (e .place + shift)) }) .ran ⌝ }
+{
+    let code = e.code;
+    let how = Outcome::Refused(Refusal {
+        code,
+        place: e.place + shift,
+    });
+    let t = Tokenizer {
+        at,
+        count,
+        done: how,
+    };
+    let p = halted(n, how, count, t);
+    p.ran
+}
+
+// The call answers the end, after a gap whose comments go g deep.
+fn at_end(n: usize, at: u64, count: u64, g: u64) -> Ran
+    ensures { λ r. ⌜ r ≡ ended n (record { at = at; count = count; done = Ended }) g .ran ⌝ }
+{
+    let t = Tokenizer {
+        at,
+        count,
+        done: Outcome::Ended,
+    };
+    let p = ended(n, t, g);
+    p.ran
+}
+
 // The run itself, for a text and a running tokenizer that passed the checks. Here alone the next token is asked for and stored, in one loop.
+// A token is stored straight from the call that answers it: a Pending for each would copy the whole token several times.
 // The tokenizer is two numbers there: as a whole, its `done` would be copied and asked again for each token.
 fn store_on(
     text: &[u8],
     shift: u64,
     limit: u64,
     records: &mut [u64],
+    g: Group,
     from: u64,
     counted: u64,
 ) -> Ran
     requires { ⌜ (checks (now text) shift ≡ Passed) × (boundary (now text) from ≡ true) ⌝ }
-    ensures { λ r. ⌜ (r ≡ ranOf (now (text .entry)) shift limit (length (now (records .entry)) / groupSize) (running from counted)) × (now (records .exit) ≡ over (numbersAll (wholeRun (now (text .entry)) shift limit (length (now (records .entry)) / groupSize) (running from counted) .tokens)) (now (records .entry))) ⌝ }
+    ensures { λ r. ⌜ (r ≡ ranOf (now (text .entry)) shift limit (length (now (records .entry)) / sizeOf g) (running from counted)) × (now (records .exit) ≡ over (groups g (wholeRun (now (text .entry)) shift limit (length (now (records .entry)) / sizeOf g) (running from counted) .tokens)) (now (records .entry))) ⌝ }
 {
-    let room = records.len() / GROUP_SIZE;
+    let size = group_size(g);
+    let room = records.len() / size;
     let mut n: usize = 0;
     let mut at = from;
     let mut count = counted;
     loop {
-        let t = Tokenizer {
-            at,
-            count,
-            done: Outcome::Running,
-        };
-        let p = pend(text, shift, limit, room, n, t);
-        let ran = p.ran;
-        if p.going {
-            let token = p.token;
-            put_group(records, n, token);
-            n += 1;
-            let after = ran.state;
-            at = after.at;
-            count = after.count;
-        } else {
-            return ran;
+        let x = tok::next::next_unshifted(text, at as usize);
+        let more = x.advances;
+        if exceeds(limit, count, more) {
+            return over_limit(n, shift, at, count);
+        }
+        let to = x.at;
+        let total = count + more;
+        let what = x.what;
+        match what {
+            What::Got(token) => {
+                if room <= n {
+                    return full(n, shift, token.start, at, count);
+                }
+                put_group(records, size * n, g, shift_token(shift, token));
+                n += 1;
+                at = to;
+                count = total;
+            }
+            What::Error(r) => {
+                return lost(n, shift, r, to, total);
+            }
+            What::End => {
+                return at_end(n, to, total, x.gap_depth);
+            }
         }
     }
 }
 
 // The same from any tokenizer: one that has ended or was refused stores nothing.
-fn store_all(text: &[u8], shift: u64, limit: u64, records: &mut [u64], from: Tokenizer) -> Ran
+fn store_all(
+    text: &[u8],
+    shift: u64,
+    limit: u64,
+    records: &mut [u64],
+    g: Group,
+    from: Tokenizer,
+) -> Ran
     requires { ⌜ (checks (now text) shift ≡ Passed) × (boundary (now text) (from .at) ≡ true) ⌝ }
-    ensures { λ r. ⌜ (r ≡ ranOf (now (text .entry)) shift limit (length (now (records .entry)) / groupSize) from) × (now (records .exit) ≡ over (numbersAll (wholeRun (now (text .entry)) shift limit (length (now (records .entry)) / groupSize) from .tokens)) (now (records .entry))) ⌝ }
+    ensures { λ r. ⌜ (r ≡ ranOf (now (text .entry)) shift limit (length (now (records .entry)) / sizeOf g) from) × (now (records .exit) ≡ over (groups g (wholeRun (now (text .entry)) shift limit (length (now (records .entry)) / sizeOf g) from .tokens)) (now (records .entry))) ⌝ }
 {
     let count = from.count;
     let done = from.done;
     match done {
-        Outcome::Running => store_on(text, shift, limit, records, from.at, count),
+        Outcome::Running => store_on(text, shift, limit, records, g, from.at, count),
         Outcome::Ended => {
             let p = halted(0, Outcome::Ended, count, from);
             p.ran
@@ -398,15 +560,22 @@ fn store_all(text: &[u8], shift: u64, limit: u64, records: &mut [u64], from: Tok
     }
 }
 
-// A whole run for callers that cannot lend records: each is five numbers, and numbers beyond the count's groups are as they were.
-pub fn run_numbers(text: &[u8], shift: u64, limit: u64, records: &mut [u64], from: Tokenizer) -> Ran
-    ensures { λ r. ⌜ (r ≡ ranOf (now (text .entry)) shift limit (length (now (records .entry)) / groupSize) from) × (now (records .exit) ≡ over (numbersAll (wholeRun (now (text .entry)) shift limit (length (now (records .entry)) / groupSize) from .tokens)) (now (records .entry))) ⌝ }
+// A whole run for callers that cannot lend records: each is a group of numbers, and numbers beyond the count's groups are as they were.
+fn run_groups(
+    text: &[u8],
+    shift: u64,
+    limit: u64,
+    records: &mut [u64],
+    g: Group,
+    from: Tokenizer,
+) -> Ran
+    ensures { λ r. ⌜ (r ≡ ranOf (now (text .entry)) shift limit (length (now (records .entry)) / sizeOf g) from) × (now (records .exit) ≡ over (groups g (wholeRun (now (text .entry)) shift limit (length (now (records .entry)) / sizeOf g) from .tokens)) (now (records .entry))) ⌝ }
 {
     match record::checks(text, shift) {
         Checked::Passed => {
             let at = from.at;
             if utf8::is_boundary(text, at as usize) {
-                return store_all(text, shift, limit, records, from);
+                return store_all(text, shift, limit, records, g, from);
             }
             let off = Outcome::Refused(Refusal {
                 code: Code::BadRecord,
@@ -420,4 +589,24 @@ pub fn run_numbers(text: &[u8], shift: u64, limit: u64, records: &mut [u64], fro
             p.ran
         }
     }
+}
+
+// A whole run into groups of five numbers: 01's kind, start, end, payload start, payload end.
+pub fn run_numbers(text: &[u8], shift: u64, limit: u64, records: &mut [u64], from: Tokenizer) -> Ran
+    ensures { λ r. ⌜ (r ≡ ranOf (now (text .entry)) shift limit (length (now (records .entry)) / groupSize) from) × (now (records .exit) ≡ over (numbersAll (wholeRun (now (text .entry)) shift limit (length (now (records .entry)) / groupSize) from .tokens)) (now (records .entry))) ⌝ }
+{
+    run_groups(text, shift, limit, records, Group::Five, from)
+}
+
+// A whole run into groups of nine numbers: the five, and what the run tells besides.
+pub fn read_numbers(
+    text: &[u8],
+    shift: u64,
+    limit: u64,
+    records: &mut [u64],
+    from: Tokenizer,
+) -> Ran
+    ensures { λ r. ⌜ (r ≡ ranOf (now (text .entry)) shift limit (length (now (records .entry)) / sizeOf Nine) from) × (now (records .exit) ≡ over (groups Nine (wholeRun (now (text .entry)) shift limit (length (now (records .entry)) / sizeOf Nine) from .tokens)) (now (records .entry))) ⌝ }
+{
+    run_groups(text, shift, limit, records, Group::Nine, from)
 }

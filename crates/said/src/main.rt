@@ -1,6 +1,7 @@
 // What the commands say of odd texts and files, for both outputs: the stored run holds it, since rt compares standard output alone.
 use commands::Said;
 use libc::STDOUT_FILENO;
+use run::Group;
 use text::Came;
 ghost use mathlib.Core.Path.{_≡_};
 ghost use lib.ListN.{length};
@@ -48,11 +49,19 @@ fn long_file() -> [u8; 294922]
     [0; 294922]
 }
 
-fn list(headed: bool, name: &[u8], text: &[u8]) {
+fn list_by(group: Group, headed: bool, name: &[u8], text: &[u8]) {
     let mut out = [0u8; 512];
     let mut err = [0u8; 128];
-    let said = commands::list(0, headed, name, text, &mut out, &mut err);
+    let said = commands::list(0, group, headed, name, text, &mut out, &mut err);
     both(said, &out, &err);
+}
+
+fn list(headed: bool, name: &[u8], text: &[u8]) {
+    list_by(Group::Five, headed, name, text);
+}
+
+fn list_depths(headed: bool, name: &[u8], text: &[u8]) {
+    list_by(Group::Nine, headed, name, text);
 }
 
 fn pack(name: &[u8], text: &[u8]) {
@@ -126,9 +135,20 @@ fn unpacks() {
     unpack(false, b"long", &file);
 }
 
+// `list --depth`: two numbers more on a token's line, one on the end's, none on an error's.
+fn depths() {
+    list_depths(false, b"nested", b"/*/**/*/a=>b/* */;/**/");
+    list_depths(true, b"refused", b"/* /* */ */ a\n$");
+    list_depths(false, b"empty", b"");
+    list_depths(false, b"ill", b"/**/\xff");
+    let more = spaces();
+    list_depths(false, b"32,769", &more);
+}
+
 fn main() {
     lists();
     columns();
     packs();
     unpacks();
+    depths();
 }

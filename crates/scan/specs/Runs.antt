@@ -167,7 +167,7 @@ neither true y e = let z : _≡_ {A = ℕ} 0 1 = cc in absurd (omega arith)
 neither false y e = (refl, e)
 
 module _ (a b x : ℕ) (e : plainStop a b x ≡ false) where
-  plain-low : x < 128
+  pub plain-low : x < 128
   plain-low = leb-false _ _ (neither (eqb x a || eqb x b) _ e .1)
 
   not-a : x ≡ a → ⊥
@@ -176,17 +176,16 @@ module _ (a b x : ℕ) (e : plainStop a b x ≡ false) where
   not-b : x ≡ b → ⊥
   not-b = eqb-false _ _ (neither (eqb x a) _ (neither (eqb x a || eqb x b) _ e .0) .1)
 
+-- a byte that starts no mark leaves a comment as it is
+pub comment-stays : (d x : ℕ) → plainStop '* '/ x ≡ false → Open d ≡ comStep (Open d) x
+comment-stays d x e = let f = not-a '* '/ x e in let g = not-b '* '/ x e in search picks
+
 -- the readers after a run from their start
 module _ (s : List ℕ) (from to : ℕ) where
   pub string-run : (q : ℕ) → to ≡ from + run (plainStop 'backslash q) (drop from s) → until (strStep q) strDone Plain (left s to) to (to - from) ≡ stringEnd q (left s from) from
   string-run q =
       until-run (strStep q) strDone Plain refl (plainStop 'backslash q) (plain-low 'backslash q)
       (λ x e. let f = not-a 'backslash q x e in let g = not-b 'backslash q x e in search picks) s from to
-
-  pub comment-run : to ≡ from + run (plainStop '* '/) (drop from s) → until comStep comDone (Open 1) (left s to) to (to - from) ≡ commentEnd (left s from) from
-  comment-run =
-      until-run comStep comDone (Open 1) refl (plainStop '* '/) (plain-low '* '/)
-      (λ x e. let f = not-a '* '/ x e in let g = not-b '* '/ x e in search picks) s from to
 
   pub regex-run : (h : ℕ) → to ≡ from + run (plainStop 'dquote 'dquote) (drop from s) → until regStep (regDone h) 0 (left s to) to (to - from) ≡ regexEnd h (left s from) from
   regex-run h =

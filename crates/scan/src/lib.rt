@@ -13,6 +13,8 @@ ghost use lib.ListN.{length, drop};
 ghost use Rattle.utf8.specs.Utf8.{chars};
 ghost use Rattle.scan.specs.declared.Found.the-variants.{At};
 ghost use Rattle.scan.specs.Readers.{strStep, strDone, stringEnd, comStep, comDone, depthOf, commentEnd, regStep, regDone, regexEnd};
+ghost use Rattle.scan.specs.Deepens.{comRun};
+ghost use Rattle.scan.specs.Depth.{commentDepth, deeper};
 ghost use Rattle.scan.specs.IfNext.{ifNext};
 ghost use Rattle.scan.specs.declared.Sought.the-variants.{Word};
 ghost use Rattle.scan.specs.Seek.{stopAt, seek, upTo, through, stringSkip, blockComment, regexSkip};
@@ -43,6 +45,18 @@ pub enum Turn {
     Stop,
     Fail(Refusal, usize, usize),
     Pass(usize, usize, usize),
+}
+
+// What a reader of characters that may hold block comments passes, and the greatest depth of those.
+pub struct Deep {
+    pub skip: Skip,
+    pub depth: usize,
+}
+
+// What a character does to a walk, and the greatest depth of the block comment that it starts; 0 if it starts none.
+pub struct Turned {
+    pub turn: Turn,
+    pub depth: usize,
 }
 
 // What a string's reader knows: the Rust's `escape` in `string_or_char_literal`.
@@ -169,31 +183,83 @@ fn com_done(st: Com) -> bool
     }
 }
 
-// `block_comment`: the slash that closes the comment whose opening mark ends before a place.
-pub fn comment_end(s: &[u8], from: usize) -> Found
-    ensures { λ r. ⌜ r ≡ commentEnd (chars (drop from (now (s .entry)))) from ⌝ }
+// How many comments are open.
+fn depth_of(st: Com) -> usize
+    ensures { λ r. ⌜ r ≡ depthOf st ⌝ }
 {
-    let to = runs::plain_run(s, from, signs::STAR, signs::SLASH);
-    let mut at = to;
-    let mut n: usize = to - from;
+    match st {
+        Com::Open { depth } => depth,
+        Com::Slash { depth } => depth,
+        Com::Star { depth } => depth,
+        Com::Complete => 0,
+    }
+}
+
+// The greater of two depths.
+pub fn deeper(a: usize, b: usize) -> usize
+    ensures { λ r. ⌜ r ≡ deeper a b ⌝ }
+{
+    if a < b {
+        return b;
+    }
+    a
+}
+
+// Up to a byte that may start a mark, unless the character before may have started one: for speed alone.
+fn com_run(s: &[u8], at: usize, st: Com) -> usize
+    ensures { λ r. ⌜ r ≡ comRun (now (s .entry)) at st ⌝ }
+{
+    match st {
+        Com::Open { depth: _ } => runs::plain_run(s, at, signs::STAR, signs::SLASH),
+        Com::Slash { depth: _ } => at,
+        Com::Star { depth: _ } => at,
+        Com::Complete => at,
+    }
+}
+
+// What a block comment's reader answers: its end, and how many comments were open at most.
+pub struct Commented {
+    pub end: Found,
+    pub depth: usize,
+}
+
+// `block_comment`: the slash that closes the comment whose opening mark ends before a place, and the comment's greatest depth.
+pub fn comment_end(s: &[u8], from: usize) -> Commented
+    ensures { λ r. ⌜ (r .end ≡ commentEnd (chars (drop from (now (s .entry)))) from) × (r .depth ≡ commentDepth (chars (drop from (now (s .entry))))) ⌝ }
+{
+    let mut at = from;
+    let mut n: usize = 0;
     let mut st = Com::Open { depth: 1 };
+    let mut most: usize = 1;
     loop {
+        let to = com_run(s, at, st);
+        n += to - at;
+        at = to;
         match utf8::char_at(s, at) {
             Sight::Char { code, width } => {
                 st = com_step(st, code);
                 if com_done(st) {
-                    return Found::At {
+                    let found = Found::At {
                         place: at,
                         passed: n,
                     };
+                    return Commented {
+                        end: found,
+                        depth: most,
+                    };
                 }
+                most = deeper(most, depth_of(st));
                 at += width;
                 n += 1;
             }
             Sight::End => {
-                return Found::Nothing {
+                let open = Found::Nothing {
                     place: at,
                     passed: n,
+                };
+                return Commented {
+                    end: open,
+                    depth: most,
                 };
             }
         }
@@ -367,10 +433,15 @@ pub fn string_skip(s: &[u8], at: usize, o: usize) -> Skip
 }
 
 // `block_comment` after the slash and the star of a comment that starts at o.
-pub fn block_comment(s: &[u8], at: usize, o: usize) -> Skip
-    ensures { λ r. ⌜ r ≡ blockComment o (chars (drop at (now (s .entry)))) at ⌝ }
+pub fn block_comment(s: &[u8], at: usize, o: usize) -> Deep
+    ensures { λ r. ⌜ (r .skip ≡ blockComment o (chars (drop at (now (s .entry)))) at) × (r .depth ≡ commentDepth (chars (drop at (now (s .entry))))) ⌝ }
 {
-    through(Code::UnterminatedBlockComment, o, comment_end(s, at))
+    let c = comment_end(s, at);
+    let end = c.end;
+    Deep {
+        skip: through(Code::UnterminatedBlockComment, o, end),
+        depth: c.depth,
+    }
 }
 
 // `regex_literal` after the opening quote of a regex with some hashes that starts at o.

@@ -8,7 +8,10 @@ use lib.ListN.{getD, length, replicate, set}
 use Rattle.utf8.specs.Chars.{'#}
 use Rattle.utf8.specs.Utf8.{widthOf}
 use Rattle.record.specs.Numbers.{codeNumber, kindNumber}
+use Rattle.record.specs.declared.Told.{Told}
+use Rattle.record.specs.declared.Told.the-variants.{Is, Unknown}
 use Rattle.record.specs.declared.Token.{Token}
+use Rattle.scan.specs.Depth.{deeper}
 use Rattle.scan.specs.Far.{after}
 use Rattle.scan.specs.Until.{left}
 use Rattle.reading.specs.Answers.{startState}
@@ -46,6 +49,10 @@ failedIn = 59
 
 abbrev pub textsTaken : ℕ
 textsTaken = 60
+
+-- 02, E4: "the sheet the largest"
+abbrev pub deepestIn : ℕ
+deepestIn = 61
 
 abbrev pub tallies : ℕ
 tallies = 64
@@ -106,9 +113,26 @@ workLimit = 0x4000000000000
 unfoldable pub story : List ℕ → Run
 story s = wholeRun s 0 workLimit (length s) startState
 
+-- 02, E4: "a record keeps two, for the gap before it and for its code; the last gap's stands beside the count": the greatest depth that a token tells
+abbrev pub depthIn : Told → ℕ
+depthIn (Is n) = n
+depthIn Unknown = 0
+
+abbrev pub tokenDepth : Token → ℕ
+tokenDepth t = deeper (depthIn (t .«gap_depth»)) (depthIn (t .«code_depth»))
+
+-- that the tokens tell, where it was d before them
+unfoldable pub depthOver : List Token → ℕ → ℕ
+depthOver [] d = d
+depthOver (t ∷ ts) d = depthOver ts (deeper d (tokenDepth t))
+
+-- and that a run tells
+unfoldable pub greatest : Run → ℕ
+greatest r = deeper (depthOver (r .tokens) 0) (r .last)
+
 -- "A text that ends in an error, 15 included, adds one to that error's tally and nothing else."
 abbrev pub addsBy : List ℕ → Run → Outcome → List ℕ
-addsBy s r Ended = enter advancesIn (r .state .count) (entered s 0 (r .tokens) emptySheet)
+addsBy s r Ended = enter deepestIn (greatest r) (enter advancesIn (r .state .count) (entered s 0 (r .tokens) emptySheet))
 addsBy s r (Refused z) = enter (tallies + codeNumber (z .code)) 1 emptySheet
 -- no whole run answers so
 addsBy s r Running = emptySheet

@@ -10,7 +10,7 @@ use Rattle.scan.specs.IfNext.{ifNext}
 use Rattle.scan.specs.declared.Skip.{Skip}
 use Rattle.scan.specs.declared.Skip.the-variants.{Lost, Past}
 use Rattle.reading.specs.Blank.{isMark}
-use Rattle.reading.specs.Gaps.{gap}
+use Rattle.reading.specs.Gaps.{gap, gapDepth}
 use Rattle.sheet.specs.declared.Gap.{Gap}
 use Rattle.sheet.specs.declared.Gap.the-variants.{Blank, Open}
 
@@ -49,10 +49,11 @@ comments xs = commented outside xs
 unfoldable pub whites : List ℕ → ℕ
 whites xs = length xs - comments xs
 
--- the gap from a place on: where it ends, and how many of its characters are whitespace and comment; or why it does not end, and after how many advances
-abbrev pub apartBy : List ℕ → Skip → Gap
-apartBy cs (Past p m) = Blank p (whites (take m cs)) (comments (take m cs))
-apartBy cs (Lost r p m) = Open r m
+-- the gap from a place on: where it ends, how many of its characters are whitespace and comment, and how deep its comments go, d; or why it does not end, and
+-- after how many advances
+abbrev pub apartBy : List ℕ → Skip → ℕ → Gap
+apartBy cs (Past p m) d = Blank p (whites (take m cs)) (comments (take m cs)) d
+apartBy cs (Lost r p m) d = Open r m
 
 unfoldable pub apart : List ℕ → ℕ → Gap
-apart cs at = apartBy cs (gap cs at)
+apart cs at = apartBy cs (gap cs at) (gapDepth cs at)

@@ -20,17 +20,19 @@ use Rattle.record.specs.declared.Code.{Code}
 use Rattle.record.specs.declared.Code.the-variants.{WorkLimit}
 use Rattle.record.specs.declared.Refusal.{Refusal}
 use Rattle.record.specs.declared.Token.{Token}
-use Rattle.scan.specs.Far.{Far, far-left, lands, short}
+use Rattle.scan.specs.Deepens.{least}
+use Rattle.scan.specs.Depth.{deeper}
+use Rattle.scan.specs.Far.{Far, far-left, fits, lands, short}
 use Rattle.scan.specs.Until.{left}
 use Rattle.scan.specs.declared.Skip.{Skip}
 use Rattle.scan.specs.declared.Skip.the-variants.{Lost, Past}
-use Rattle.reading.specs.Answers.{more}
+use Rattle.reading.specs.Answers.{more, told, toldToken, toldWhat}
 use Rattle.reading.specs.CallLaw.{LaidIn, Placed, next-laid}
-use Rattle.reading.specs.Gaps.{gap}
+use Rattle.reading.specs.Gaps.{gap, gapDepth}
 use Rattle.reading.specs.Measures.{tailOf}
 use Rattle.reading.specs.Next.{next, tokenOrEnd}
 use Rattle.reading.specs.Passes.{gap-sound}
-use Rattle.reading.specs.Run.{Run, also, runFrom, runWith, shiftToken, step, stepBy, stepWith, stopped}
+use Rattle.reading.specs.Run.{Run, also, ending, runFrom, runWith, shiftToken, step, stepBy, stepWith, stopped}
 use Rattle.reading.specs.Steps.{call-within, next-gap, next-lost}
 use Rattle.reading.specs.Story.{run-end, run-error, run-got}
 use Rattle.reading.specs.Sums.{placed-far, placed-length}
@@ -44,10 +46,12 @@ use Rattle.reading.specs.declared.What.the-variants.{End, Error, Got}
 use Rattle.run.specs.Checked.{wholeRunWith}
 use Rattle.run.specs.Pending.{running}
 use Rattle.ledger.specs.Answered.{SaysIn, next-says}
-use Rattle.sheet.specs.Adds.{between, beyond, droppedAfter, drops, emptySheet, enter, entered, failedIn, fails, gapEntered, inComments, inTokens, inWhitespace, sheetSize, story, tokenEntered, workLimit}
+use Rattle.ledger.specs.Levels.{last-told, next-small}
+use Rattle.ledger.specs.Small.{gap-small}
+use Rattle.sheet.specs.Adds.{between, beyond, depthIn, depthOver, droppedAfter, drops, emptySheet, enter, entered, failedIn, fails, gapEntered, greatest, inComments, inTokens, inWhitespace, sheetSize, story, tokenDepth, tokenEntered, workLimit}
 use Rattle.sheet.specs.Apart.{apart, apartBy, comments, whites}
 use Rattle.sheet.specs.Laws.{Below, below-more, empty-below, empty-length, enter-below, enter-length, fails-le, span-length, up-to-far, whites-comments}
-use Rattle.sheet.specs.Parts.{token-start}
+use Rattle.sheet.specs.Parts.{Delivers, token-start}
 use Rattle.sheet.specs.Reads.{callOf, partOf, readOf, rowOf}
 use Rattle.sheet.specs.declared.Gap.the-variants.{Blank, Open}
 use Rattle.sheet.specs.declared.Read.{Read}
@@ -74,85 +78,87 @@ module _ (s : List ℕ) (at count : ℕ) where
   call-is = refl
 
   -- the call would take the advances above the limit
-  pub call-limit : ltb workLimit (count + reads .advances) ≡ true → callOf s at count ≡ record { what = Error (refusal WorkLimit at); next = running at count }
+  pub call-limit : ltb workLimit (count + reads .advances) ≡ true → callOf s at count ≡ record { what = Error (refusal WorkLimit at); next = running at count; «gap_depth» = 0 }
   call-limit q = let a : at + 0 ≡ at = omega arith in call-is ∙ rw (q, a)
 
   module _ (q : ltb workLimit (count + reads .advances) ≡ false) where
-    pub call-got : (t : Token) → reads .what ≡ Got t → callOf s at count ≡ record { what = Got t; next = running (reads .at) (count + reads .advances) }
+    pub call-got : (t : Token) → reads .what ≡ Got t → callOf s at count ≡ record { what = Got t; next = running (reads .at) (count + reads .advances); «gap_depth» = reads .«gap_depth» }
     call-got t e = call-is ∙ rw (q, e, shift-token t)
 
     pub call-error : (r : Refusal) → reads .what ≡ Error r
-        → callOf s at count ≡ record { what = Error r; next = record { at = reads .at; count = count + reads .advances; done = Refused r } }
+        → callOf s at count ≡ record { what = Error r; next = record { at = reads .at; count = count + reads .advances; done = Refused r }; «gap_depth» = reads .«gap_depth» }
     call-error r e = call-is ∙ rw (q, e, shift-refusal r)
 
-    pub call-end : reads .what ≡ End → callOf s at count ≡ record { what = End; next = record { at = reads .at; count = count + reads .advances; done = Ended } }
+    pub call-end : reads .what ≡ End
+        → callOf s at count ≡ record { what = End; next = record { at = reads .at; count = count + reads .advances; done = Ended }; «gap_depth» = reads .«gap_depth» }
     call-end e = call-is ∙ rw (q, e)
 
     pub read-got : (t : Token) → reads .what ≡ Got t
-        → (readOf s at count ≡ record { going = true; at = reads .at; advances = count + reads .advances; how = Running })
+        → (readOf s at count ≡ record { going = true; at = reads .at; advances = count + reads .advances; deep = tokenDepth t; how = Running })
         × ((row : List ℕ) → rowOf s at count row ≡ tokenEntered s t (gapEntered (between s at (t .start)) row))
     unfolding readOf rowOf
     read-got t e = (rw (call-got t e), λ row. rw (call-got t e))
 
     pub read-error : (r : Refusal) → reads .what ≡ Error r
-        → (readOf s at count ≡ record { going = false; at = 0; advances = count + reads .advances; how = Refused r }) × ((row : List ℕ) → rowOf s at count row ≡ row)
+        → (readOf s at count ≡ record { going = false; at = 0; advances = count + reads .advances; deep = 0; how = Refused r }) × ((row : List ℕ) → rowOf s at count row ≡ row)
     unfolding readOf rowOf
     read-error r e = (rw (call-error r e), λ row. rw (call-error r e))
 
     pub read-end : reads .what ≡ End
-        → (readOf s at count ≡ record { going = false; at = 0; advances = count + reads .advances; how = Ended })
+        → (readOf s at count ≡ record { going = false; at = 0; advances = count + reads .advances; deep = reads .«gap_depth»; how = Ended })
         × ((row : List ℕ) → rowOf s at count row ≡ gapEntered (left s at) row)
     unfolding readOf rowOf
     read-end e = (rw (call-end e), λ row. rw (call-end e))
 
   pub read-limit : ltb workLimit (count + reads .advances) ≡ true
-      → (readOf s at count ≡ record { going = false; at = 0; advances = count; how = Refused (refusal WorkLimit at) }) × ((row : List ℕ) → rowOf s at count row ≡ row)
+      → (readOf s at count ≡ record { going = false; at = 0; advances = count; deep = 0; how = Refused (refusal WorkLimit at) }) × ((row : List ℕ) → rowOf s at count row ≡ row)
   unfolding readOf rowOf
   read-limit q = (rw (call-limit q), λ row. rw (call-limit q))
 
   -- ---- after a gap that is told apart
-  pub record Gapped (p w c : ℕ) : Type 0 where
+  pub record Gapped (p w c d : ℕ) : Type 0 where
     pub gap-is : gap (left s at) at ≡ Past p (w + c)
     pub far : Far (left s at) at (w + c) p
-    pub goes-on : reads ≡ more (w + c) (tokenOrEnd (left s p) p)
+    pub goes-on : reads ≡ told d (more (w + c) (tokenOrEnd (left s p) p))
     pub white-is : whites (between s at p) ≡ w
     pub comment-is : comments (between s at p) ≡ c
 
-  pub gapped : (p w c : ℕ) → apart (left s at) at ≡ Blank p w c → Gapped p w c
+  pub gapped : (p w c d : ℕ) → apart (left s at) at ≡ Blank p w c d → Gapped p w c d
   unfolding apart between
-  gapped p w c e = go (gap (left s at) at) refl e
+  gapped p w c d e = go (gap (left s at) at) refl e
     where
-      go : (x : Skip) → gap (left s at) at ≡ x → apartBy (left s at) x ≡ Blank p w c → Gapped p w c
+      go : (x : Skip) → gap (left s at) at ≡ x → apartBy (left s at) x (gapDepth (left s at) at) ≡ Blank p w c d → Gapped p w c d
       go (Past q m) g z =
           let a : q ≡ p = cc in
           let f : Far (left s at) at m p = (rw (g ∙ ap (λ (j : ℕ). Past j m) a) at (gap-sound (left s at) at)) .is in
           let u : whites (take m (left s at)) ≡ w = cc in
           let v : comments (take m (left s at)) ≡ c = cc in
+          let n : gapDepth (left s at) at ≡ d = cc in
           let k : w + c ≡ m = omega (arith, whites-comments (take m (left s at)), length-take-le m (left s at) (f .within), u, v) in
           let b = up-to-far (left s at) at m p f in
-          record { gap-is = rw (k, ← a) g; far = rw k f; goes-on = rw k (next-gap s at p m (rw (← a) g)); white-is = rw b u; comment-is = rw b v }
+          record { gap-is = rw (k, ← a) g; far = rw k f; goes-on = rw (k, ← n) (next-gap s at p m (rw (← a) g)); white-is = rw b u; comment-is = rw b v }
       go (Lost r q m) g z = let k : _≡_ {A = ℕ} 0 1 = cc in absurd (omega arith)
 
-  pub gap-entered : (p w c : ℕ) → Gapped p w c → (row : List ℕ) → gapEntered (between s at p) row ≡ enter inComments c (enter inWhitespace w row)
+  pub gap-entered : (p w c d : ℕ) → Gapped p w c d → (row : List ℕ) → gapEntered (between s at p) row ≡ enter inComments c (enter inWhitespace w row)
   unfolding gapEntered
-  gap-entered p w c h row = rw (h .white-is, h .comment-is)
+  gap-entered p w c d h row = rw (h .white-is, h .comment-is)
 
   -- a gap up to the end is all that is left
-  pub last-entered : (p w c : ℕ) → Gapped p w c → reads .what ≡ End → (row : List ℕ) → gapEntered (left s at) row ≡ enter inComments c (enter inWhitespace w row)
+  pub last-entered : (p w c d : ℕ) → Gapped p w c d → reads .what ≡ End → (row : List ℕ) → gapEntered (left s at) row ≡ enter inComments c (enter inWhitespace w row)
   unfolding between
-  last-entered p w c h e row =
+  last-entered p w c d h e row =
       let l : LaidIn (left s at) at (reads .at) (reads .advances) End = rw e at (next-laid (left s at) at .is) in
       let z : Past p (w + c) ≡ Past (reads .at) (reads .advances) = sym (h .gap-is) ∙ l .0 in
       let k : w + c ≡ reads .advances = cc in
       let b : between s at p ≡ left s at = up-to-far (left s at) at (w + c) p (h .far) ∙ ap (λ (j : ℕ). take j (left s at)) (k ∙ l .1) ∙ take-length (left s at) in
-      ap (λ (xs : List ℕ). gapEntered xs row) (sym b) ∙ gap-entered p w c h row
+      ap (λ (xs : List ℕ). gapEntered xs row) (sym b) ∙ gap-entered p w c d h row
 
   -- a gap that is open
   pub opened : (r : Refusal) (m : ℕ) → apart (left s at) at ≡ Open r m → (reads .what ≡ Error r) × (reads .advances ≡ m)
   unfolding apart
   opened r m e = go (gap (left s at) at) refl e
     where
-      go : (x : Skip) → gap (left s at) at ≡ x → apartBy (left s at) x ≡ Open r m → (reads .what ≡ Error r) × (reads .advances ≡ m)
+      go : (x : Skip) → gap (left s at) at ≡ x → apartBy (left s at) x (gapDepth (left s at) at) ≡ Open r m → (reads .what ≡ Error r) × (reads .advances ≡ m)
       go (Past q n) g z = let k : _≡_ {A = ℕ} 0 1 = cc in absurd (omega arith)
       go (Lost r′ q n) g z =
           let a : r′ ≡ r = cc in
@@ -207,6 +213,9 @@ pub record Going (s : List ℕ) (at count : ℕ) (row : List ℕ) : Type 0 where
   pub how-is : runFrom s 0 workLimit calls room (running at count) .how ≡ story s .how
   pub count-is : runFrom s 0 workLimit calls room (running at count) .state .count ≡ story s .state .count
   pub row-is : entered s at (runFrom s 0 workLimit calls room (running at count) .tokens) row ≡ entered s 0 (story s .tokens) emptySheet
+  pub deep : ℕ
+  pub deep-is : deeper (depthOver (runFrom s 0 workLimit calls room (running at count) .tokens) deep) (runFrom s 0 workLimit calls room (running at count) .last) ≡ greatest (story s)
+  pub low : deep ≤ 0x7FFFFFFF
   pub enough : length (left s at) < calls
   pub space : length (left s at) ≤ room
   pub within : at ≤ length s
@@ -215,26 +224,31 @@ pub record Going (s : List ℕ) (at count : ℕ) (row : List ℕ) : Type 0 where
   pub below : Below (3 * at) row
   pub size : length row ≡ sheetSize
 
-pub going-start : (s : List ℕ) → checks s 0 ≡ Passed → Going s 0 0 emptySheet
-unfolding story wholeRunWith runWith
-going-start s e =
+pub going-start : (s : List ℕ) → checks s 0 ≡ Passed → (row : List ℕ) → row ≡ emptySheet → (g : Going s 0 0 row) × (g .deep ≡ 0)
+unfolding story greatest wholeRunWith runWith
+going-start s e row r =
     let a = allowed s 0 e in
     let b : boundary s 0 ≡ true = bounded s 0 (omega arith) (valid-whole s (a .valid)) in
-    let n : 0 + length (left s 0) ≤ length s = short s 0 (omega arith) in
-    record {
-      calls = suc (length s);
-      room = length s;
-      how-is = rw (e, b);
-      count-is = rw (e, b);
-      row-is = rw (e, b);
-      enough = omega (arith, n);
-      space = omega (arith, n);
-      within = omega arith;
-      small = a .short;
-      spent = omega arith;
-      below = empty-below;
-      size = empty-length;
-    }
+    let n : 0 + length (left s 0) ≤ length s = short s 0 (omega arith) in (
+      record {
+        calls = suc (length s);
+        room = length s;
+        how-is = rw (e, b);
+        count-is = rw (e, b);
+        row-is = rw (r, e, b);
+        deep = 0;
+        deep-is = rw (e, b);
+        low = omega arith;
+        enough = omega (arith, n);
+        space = omega (arith, n);
+        within = omega arith;
+        small = a .short;
+        spent = omega arith;
+        below = rw r empty-below;
+        size = rw r empty-length;
+      },
+      refl,
+    )
 
 -- the errors that are tallied: those of the reading, and 15
 abbrev pub isTallied : Code → Bool
@@ -252,7 +266,7 @@ TalliedIn Running = Unit {0}
 error-tallied : (cs : List ℕ) (at : ℕ) (r : Refusal) → next cs at .what ≡ Error r → isTallied (r .code) ≡ true
 unfolding among
 error-tallied cs at r e =
-    let h = next-says (λ (t : Token). Unit {0}) (λ (c : Code). isTallied c ≡ true) (λ kind o p h. tt) (λ kind o p from to h s. tt) refl refl refl refl refl refl refl refl (λ o p from to. tt) cs at in
+    let h = next-says (λ (t : Token). Unit {0}) (λ (c : Code). isTallied c ≡ true) (λ kind o p h. tt) (λ kind o p from to h s. tt) refl refl refl refl refl refl refl refl (λ o p from to. tt) (λ g d t h. h) cs at in
     let w : SaysIn (λ (t : Token). Unit {0}) (λ (c : Code). isTallied c ≡ true) (Error r) = rw e at (h .is) in
     w
 
@@ -268,6 +282,10 @@ module _ (s : List ℕ) (at count : ℕ) (row : List ℕ) (g : Going s at count 
   step-next : {r : Stepped} → callOf s at count ≡ r → step s 0 workLimit (running at count) .next ≡ r .next
   unfolding callOf
   step-next e = ap (λ (z : Stepped). z .next) e
+
+  step-deep : {r : Stepped} → callOf s at count ≡ r → step s 0 workLimit (running at count) .«gap_depth» ≡ r .«gap_depth»
+  unfolding callOf
+  step-deep e = ap (λ (z : Stepped). z .«gap_depth») e
 
   -- there is a call left
   some-call : (P : ℕ → Type 0) → ((k : ℕ) → g .calls ≡ suc k → P (suc k)) → P (g .calls)
@@ -286,17 +304,20 @@ module _ (s : List ℕ) (at count : ℕ) (row : List ℕ) (g : Going s at count 
   gap-size xs l = enter-length _ _ _ ∙ enter-length _ _ _
 
   -- how the run stops where it does
-  pub record Over (how : Outcome) (n : ℕ) (row′ : List ℕ) : Type 0 where
+  pub record Over (how : Outcome) (n d : ℕ) (row′ : List ℕ) : Type 0 where
     pub how-over : how ≡ story s .how
     pub count-over : n ≡ story s .state .count
     pub row-over : how ≡ Ended → row′ ≡ entered s 0 (story s .tokens) emptySheet
     pub below-over : Below 0x400000000 row′
     pub size-over : length row′ ≡ sheetSize
     pub spent-over : n ≤ workLimit
+    pub deep-over : how ≡ Ended → d ≡ greatest (story s)
+    pub low-over : d ≤ 0x7FFFFFFF
     pub code-over : TalliedIn how
 
-  over-error : (z : Refusal) (u : Tokenizer) → callOf s at count ≡ record { what = Error z; next = u } → u .count ≤ workLimit → isTallied (z .code) ≡ true → Over (Refused z) (u .count) row
-  over-error z u e m k =
+  over-error : (z : Refusal) (u : Tokenizer) (h : ℕ) → callOf s at count ≡ record { what = Error z; next = u; «gap_depth» = h } → u .count ≤ workLimit → isTallied (z .code) ≡ true
+      → Over (Refused z) (u .count) (deeper (g .deep) 0) row
+  over-error z u h e m k =
       let f : runFrom s 0 workLimit (g .calls) (g .room) (running at count) ≡ stopped (Refused z) u =
       some-call (λ n. runFrom s 0 workLimit n (g .room) (running at count) ≡ stopped (Refused z) u)
       (λ j _. run-error s 0 workLimit j (g .room) (running at count) z (step-what e) ∙ ap (stopped (Refused z)) (step-next e)) in
@@ -307,15 +328,18 @@ module _ (s : List ℕ) (at count : ℕ) (row : List ℕ) (g : Going s at count 
         below-over = below-more (omega (arith, g .within, g .small)) (g .below);
         size-over = g .size;
         spent-over = m;
+        deep-over = λ q. let w : _≡_ {A = ℕ} 0 1 = cc in absurd (omega arith);
+        low-over = least (g .deep) 0 0x7FFFFFFF (g .low) (omega arith);
         code-over = k;
       }
 
-  over-end : (u : Tokenizer) → callOf s at count ≡ record { what = End; next = u } → u .count ≤ workLimit → Over Ended (u .count) (gapEntered (left s at) row)
-  unfolding entered
-  over-end u e m =
-      let f : runFrom s 0 workLimit (g .calls) (g .room) (running at count) ≡ stopped Ended u =
-      some-call (λ n. runFrom s 0 workLimit n (g .room) (running at count) ≡ stopped Ended u)
-      (λ k _. run-end s 0 workLimit k (g .room) (running at count) (step-what e) ∙ ap (stopped Ended) (step-next e)) in
+  over-end : (u : Tokenizer) (h : ℕ) → callOf s at count ≡ record { what = End; next = u; «gap_depth» = h } → u .count ≤ workLimit → h ≤ 0x7FFFFFFF
+      → Over Ended (u .count) (deeper (g .deep) h) (gapEntered (left s at) row)
+  unfolding entered depthOver
+  over-end u h e m b =
+      let f : runFrom s 0 workLimit (g .calls) (g .room) (running at count) ≡ ending h u =
+      some-call (λ n. runFrom s 0 workLimit n (g .room) (running at count) ≡ ending h u)
+      (λ k _. run-end s 0 workLimit k (g .room) (running at count) (step-what e) ∙ rw (step-next e, step-deep e)) in
       record {
         how-over = sym (ap (λ (r : Run). r .how) f) ∙ g .how-is;
         count-over = sym (ap (λ (r : Run). r .state .count) f) ∙ g .count-is;
@@ -325,8 +349,13 @@ module _ (s : List ℕ) (at count : ℕ) (row : List ℕ) (g : Going s at count 
             below-more (omega (arith, a, b, g .small)) (gap-below (left s at) (g .below));
         size-over = gap-size (left s at) row ∙ g .size;
         spent-over = m;
+        deep-over = λ q. rw f at (g .deep-is);
+        low-over = least (g .deep) h 0x7FFFFFFF (g .low) b;
         code-over = tt;
       }
+
+  end-low : x .what ≡ End → x .«gap_depth» ≤ 0x7FFFFFFF
+  end-low e = let k = fits s at in rw (last-told s at e) (omega (arith, gap-small (left s at) at, k, g .small))
 
   -- a token
   module _ (t : Token) (e : x .what ≡ Got t) where
@@ -346,17 +375,26 @@ module _ (s : List ℕ) (at count : ℕ) (row : List ℕ) (g : Going s at count 
     unfolding tokenEntered
     token-size = enter-length _ _ _ ∙ enter-length _ _ _ ∙ enter-length _ _ _ ∙ enter-length _ _ _ ∙ gap-size _ row ∙ g .size
 
-    on : (q : ltb workLimit (count + x .advances) ≡ false) → Going s (x .at) (count + x .advances) (tokenEntered s t (gapEntered (between s at (t .start)) row))
-    unfolding entered
+    -- how deep its gap and its code go
+    token-low : tokenDepth t ≤ 0x7FFFFFFF
+    token-low =
+        let (a, b, p, q) = next-small (left s at) at t e in
+        let k = fits s at in
+        rw (p, q) (least (x .«gap_depth») (x .«code_depth») 0x7FFFFFFF (omega (arith, a, k, g .small)) (omega (arith, b, k, g .small)))
+
+    on : (q : ltb workLimit (count + x .advances) ≡ false)
+        → (i : Going s (x .at) (count + x .advances) (tokenEntered s t (gapEntered (between s at (t .start)) row))) × (i .deep ≡ deeper (g .deep) (tokenDepth t))
+    unfolding entered depthOver
     on q = go (g .calls) refl
       where
         l : length (between s at (t .start)) + length (between s (t .start) (t .end)) + drops s t + length (left s (x .at)) ≡ length (left s at)
         l = sizes s at t e
 
-        h : callOf s at count ≡ record { what = Got t; next = running (x .at) (count + x .advances) }
+        h : callOf s at count ≡ record { what = Got t; next = running (x .at) (count + x .advances); «gap_depth» = x .«gap_depth» }
         h = call-got s at count q t e
 
-        go : (n : ℕ) → g .calls ≡ n → Going s (x .at) (count + x .advances) (tokenEntered s t (gapEntered (between s at (t .start)) row))
+        go : (n : ℕ) → g .calls ≡ n
+            → (i : Going s (x .at) (count + x .advances) (tokenEntered s t (gapEntered (between s at (t .start)) row))) × (i .deep ≡ deeper (g .deep) (tokenDepth t))
         go zero z = let y = g .enough in absurd (omega (arith, y, z))
         go (suc k) z =
             let m = some s at t e in
@@ -365,30 +403,40 @@ module _ (s : List ℕ) (at count : ℕ) (row : List ℕ) (g : Going s at count 
             let f : runFrom s 0 workLimit (g .calls) (g .room) (running at count) ≡ also t (runFrom s 0 workLimit k (g .room - 1) (running (x .at) (count + x .advances))) =
             ap (λ (j : ℕ). runFrom s 0 workLimit j (g .room) (running at count)) z
             ∙ run-got s 0 workLimit k (g .room) (running at count) t (step-what h) (lt-ltb 0 (g .room) (omega (arith, l, m, v)))
-            ∙ ap (λ (u : Tokenizer). also t (runFrom s 0 workLimit k (g .room - 1) u)) (step-next h) in
-            record {
-              calls = k;
-              room = g .room - 1;
-              how-is = sym (ap (λ (r : Run). r .how) f) ∙ g .how-is;
-              count-is = sym (ap (λ (r : Run). r .state .count) f) ∙ g .count-is;
-              row-is = sym (ap (λ (p : ℕ). entered s p (runFrom s 0 workLimit k (g .room - 1) (running (x .at) (count + x .advances)) .tokens) (tokenEntered s t (gapEntered (between s at (t .start)) row))) (beyond-is s at t e))
-                  ∙ sym (ap (λ (r : Run). entered s at (r .tokens) row) f)
-                  ∙ g .row-is;
-              enough = omega (arith, l, m, n, z);
-              space = omega (arith, l, m, v);
-              within = call-within s at (g .within) .room;
-              small = g .small;
-              spent = ltb-false workLimit (count + x .advances) q;
-              below = token-below;
-              size = token-size;
-            }
+            ∙ ap (λ (u : Tokenizer). also t (runFrom s 0 workLimit k (g .room - 1) u)) (step-next h) in (
+              record {
+                calls = k;
+                room = g .room - 1;
+                how-is = sym (ap (λ (r : Run). r .how) f) ∙ g .how-is;
+                count-is = sym (ap (λ (r : Run). r .state .count) f) ∙ g .count-is;
+                row-is = sym (ap (λ (p : ℕ). entered s p (runFrom s 0 workLimit k (g .room - 1) (running (x .at) (count + x .advances)) .tokens) (tokenEntered s t (gapEntered (between s at (t .start)) row))) (beyond-is s at t e))
+                    ∙ sym (ap (λ (r : Run). entered s at (r .tokens) row) f)
+                    ∙ g .row-is;
+                deep = deeper (g .deep) (tokenDepth t);
+                deep-is = rw f at (g .deep-is);
+                low = least (g .deep) (tokenDepth t) 0x7FFFFFFF (g .low) token-low;
+                enough = omega (arith, l, m, n, z);
+                space = omega (arith, l, m, v);
+                within = call-within s at (g .within) .room;
+                small = g .small;
+                spent = ltb-false workLimit (count + x .advances) q;
+                below = token-below;
+                size = token-size;
+              },
+              refl,
+            )
 
     onward : at < x .at
     onward = omega (arith, moved s at t e, some s at t e)
 
   -- ---- the two ways of a turn, as the code takes them
+  pub record Onto (r : Read) (row′ : List ℕ) : Type 0 where
+    pub to : Going s (r .at) (r .advances) row′
+    pub deeper-is : to .deep ≡ deeper (g .deep) (r .deep)
+    pub moves : at < r .at
+
   abbrev pub Onwards : Read → List ℕ → Type 0
-  Onwards r row′ = (r .going ≡ true → Going s (r .at) (r .advances) row′ × (at < r .at)) × (r .going ≡ false → Over (r .how) (r .advances) row′)
+  Onwards r row′ = (r .going ≡ true → Onto r row′) × (r .going ≡ false → Over (r .how) (r .advances) (deeper (g .deep) (r .deep)) row′)
 
   no : {A : Type 0} → false ≡ true → A
   no e = let w : _≡_ {A = ℕ} 0 1 = cc in absurd (omega arith)
@@ -398,25 +446,25 @@ module _ (s : List ℕ) (at count : ℕ) (row : List ℕ) (g : Going s at count 
   onwards = by (ltb workLimit (count + x .advances)) refl
     where
       what : ltb workLimit (count + x .advances) ≡ false → (w : What) → x .what ≡ w → Onwards (readOf s at count) (rowOf s at count row)
-      what q (Got t) e = let h = call-got s at count q t e in rw h (λ _. (on t e q, onward t e), λ z. no (sym z))
-      what q (Error r) e = let h = call-error s at count q r e in rw h (λ z. no z, λ _. over-error r _ h (ltb-false workLimit (count + x .advances) q) (error-tallied (left s at) at r e))
-      what q End e = let h = call-end s at count q e in rw h (λ z. no z, λ _. over-end _ h (ltb-false workLimit (count + x .advances) q))
+      what q (Got t) e = let h = call-got s at count q t e in rw h (λ _. (let o = on t e q in record { to = o .0; deeper-is = o .1; moves = onward t e }), λ z. no (sym z))
+      what q (Error r) e = let h = call-error s at count q r e in rw h (λ z. no z, λ _. over-error r _ _ h (ltb-false workLimit (count + x .advances) q) (error-tallied (left s at) at r e))
+      what q End e = let h = call-end s at count q e in rw h (λ z. no z, λ _. over-end _ _ h (ltb-false workLimit (count + x .advances) q) (end-low e))
 
       by : (b : Bool) → ltb workLimit (count + x .advances) ≡ b → Onwards (readOf s at count) (rowOf s at count row)
-      by true q = let h = call-limit s at count q in rw h (λ z. no z, λ _. over-error (refusal WorkLimit at) _ h (g .spent) limit-tallied)
+      by true q = let h = call-limit s at count q in rw h (λ z. no z, λ _. over-error (refusal WorkLimit at) _ _ h (g .spent) limit-tallied)
       by false q = what q (x .what) refl
 
 -- ---- a call as the code takes it: its gap, and then the token, the error or the end, y, at p
-module _ (s : List ℕ) (at count : ℕ) (row : List ℕ) (g : Going s at count row) (p w c : ℕ) (h : Gapped s at count p w c) (y : Call) (e : y ≡ tokenOrEnd (left s p) p) where
-  whole : next (left s at) at ≡ more (w + c) y
-  whole = h .goes-on ∙ ap (more (w + c)) (sym e)
+module _ (s : List ℕ) (at count : ℕ) (row : List ℕ) (g : Going s at count row) (p w c d : ℕ) (h : Gapped s at count p w c d) (y : Call) (e : y ≡ tokenOrEnd (left s p) p) where
+  whole : next (left s at) at ≡ told d (more (w + c) y)
+  whole = h .goes-on ∙ ap (λ (z : Call). told d (more (w + c) z)) (sym e)
 
   total-is : count + next (left s at) at .advances ≡ count + (w + c + y .advances)
-  unfolding more
+  unfolding more told
   total-is = ap (λ (z : Call). count + z .advances) whole
 
   pub after-small : w + c + y .advances ≤ 0xFFFFFFFF
-  unfolding more
+  unfolding more told
   after-small =
       let a = call-within s at (g .within) .most in
       let b : at + length (left s at) ≤ length s = short s at (g .within) in
@@ -424,41 +472,48 @@ module _ (s : List ℕ) (at count : ℕ) (row : List ℕ) (g : Going s at count 
       omega (arith, a, b, d, g .small)
 
   pub after-limit : workLimit < count + (w + c + y .advances)
-      → (record { going = false; at = 0; advances = count; how = Refused (refusal WorkLimit at) } ≡ readOf s at count) × (row ≡ rowOf s at count row)
+      → (record { going = false; at = 0; advances = count; deep = 0; how = Refused (refusal WorkLimit at) } ≡ readOf s at count) × (row ≡ rowOf s at count row)
   after-limit l = let z = read-limit s at count (lt-ltb workLimit (count + next (left s at) at .advances) (omega (arith, l, total-is))) in (sym (z .0), sym (z .1 row))
+
+  pub delivers : (t : Token) → y .what ≡ Got t → Delivers (tokenOrEnd (left s p) p) t (y .at) (y .advances)
+  delivers t q = record { what-is = ap (λ (z : Call). z .what) (sym e) ∙ q; at-is = ap (λ (z : Call). z .at) (sym e); spent-is = ap (λ (z : Call). z .advances) (sym e) }
 
   module _ (l : count + (w + c + y .advances) ≤ workLimit) where
     test : ltb workLimit (count + next (left s at) at .advances) ≡ false
     test = le-ltb workLimit (count + next (left s at) at .advances) (omega (arith, l, total-is))
 
-    what-is : (x : What) → y .what ≡ x → next (left s at) at .what ≡ x
-    unfolding more
-    what-is x q = ap (λ (z : Call). z .what) whole ∙ q
+    what-is : (x : What) → y .what ≡ x → next (left s at) at .what ≡ toldWhat d (y .«code_depth») x
+    unfolding more told
+    what-is x q = ap (λ (z : Call). z .what) whole ∙ ap (toldWhat d (y .«code_depth»)) q
 
     at-is : next (left s at) at .at ≡ y .at
-    unfolding more
+    unfolding more told
     at-is = ap (λ (z : Call). z .at) whole
 
+    deep-is : next (left s at) at .«gap_depth» ≡ d
+    unfolding told
+    deep-is = ap (λ (z : Call). z .«gap_depth») whole
+
     pub after-got : (t : Token) → y .what ≡ Got t
-        → (record { going = true; at = y .at; advances = count + (w + c + y .advances); how = Running } ≡ readOf s at count)
+        → (record { going = true; at = y .at; advances = count + (w + c + y .advances); deep = deeper d (y .«code_depth»); how = Running } ≡ readOf s at count)
         × ((to : List ℕ) → to ≡ enter failedIn (partOf s t .failed) (enter droppedAfter (partOf s t .dropped) (enter inTokens (partOf s t .width) (enter (kindNumber (t .kind)) 1 (enter inComments c (enter inWhitespace w row)))))
         → to ≡ rowOf s at count row)
     unfolding partOf tokenEntered
     after-got t q =
-        let z = read-got s at count test t (what-is (Got t) q) in
-        let b : t .start ≡ p = token-start s p t (y .at) (y .advances) (sym e ∙ ap (λ (x : What). record { what = x; at = y .at; advances = y .advances }) q) in
-        (rw (← total-is, ← at-is) (sym (z .0)), λ to f. f ∙ sym (z .1 row ∙ rw (b, gap-entered s at count p w c h row)))
+        let z = read-got s at count test (toldToken d (y .«code_depth») t) (what-is (Got t) q) in
+        let b : t .start ≡ p = token-start s p t (y .at) (y .advances) (delivers t q) in
+        (rw (← total-is, ← at-is) (sym (z .0)), λ to f. f ∙ sym (z .1 row ∙ rw (b, gap-entered s at count p w c d h row)))
 
     pub after-error : (r : Refusal) → y .what ≡ Error r
-        → (record { going = false; at = 0; advances = count + (w + c + y .advances); how = Refused r } ≡ readOf s at count) × (row ≡ rowOf s at count row)
+        → (record { going = false; at = 0; advances = count + (w + c + y .advances); deep = 0; how = Refused r } ≡ readOf s at count) × (row ≡ rowOf s at count row)
     after-error r q = let z = read-error s at count test r (what-is (Error r) q) in (rw (← total-is) (sym (z .0)), sym (z .1 row))
 
     pub after-end : y .what ≡ End
-        → (record { going = false; at = 0; advances = count + (w + c + y .advances); how = Ended } ≡ readOf s at count)
+        → (record { going = false; at = 0; advances = count + (w + c + y .advances); deep = d; how = Ended } ≡ readOf s at count)
         × ((to : List ℕ) → to ≡ enter inComments c (enter inWhitespace w row) → to ≡ rowOf s at count row)
     after-end q =
         let z = read-end s at count test (what-is End q) in
-        (rw (← total-is) (sym (z .0)), λ to f. f ∙ sym (z .1 row ∙ last-entered s at count p w c h (what-is End q) row))
+        (rw (← total-is, ← deep-is) (sym (z .0)), λ to f. f ∙ sym (z .1 row ∙ last-entered s at count p w c d h (what-is End q) row))
 
 -- ---- a comment that does not end
 module _ (s : List ℕ) (at count : ℕ) (row : List ℕ) (g : Going s at count row) (r : Refusal) (m : ℕ) (e : apart (left s at) at ≡ Open r m) where
@@ -468,7 +523,7 @@ module _ (s : List ℕ) (at count : ℕ) (row : List ℕ) (g : Going s at count 
       let b : at + length (left s at) ≤ length s = short s at (g .within) in
       omega (arith, a, b, opened s at count r m e .1, g .small)
 
-  pub open-read : (cond (ltb workLimit (count + m)) (record { going = false; at = 0; advances = count; how = Refused (refusal WorkLimit at) }) (record { going = false; at = 0; advances = count + m; how = Refused r }) ≡ readOf s at count)
+  pub open-read : (cond (ltb workLimit (count + m)) (record { going = false; at = 0; advances = count; deep = 0; how = Refused (refusal WorkLimit at) }) (record { going = false; at = 0; advances = count + m; deep = 0; how = Refused r }) ≡ readOf s at count)
       × (row ≡ rowOf s at count row)
   open-read = go (ltb workLimit (count + m)) refl
     where
@@ -476,7 +531,7 @@ module _ (s : List ℕ) (at count : ℕ) (row : List ℕ) (g : Going s at count 
       o = opened s at count r m e
 
       go : (b : Bool) → ltb workLimit (count + m) ≡ b
-          → (cond b (record { going = false; at = 0; advances = count; how = Refused (refusal WorkLimit at) }) (record { going = false; at = 0; advances = count + m; how = Refused r }) ≡ readOf s at count)
+          → (cond b (record { going = false; at = 0; advances = count; deep = 0; how = Refused (refusal WorkLimit at) }) (record { going = false; at = 0; advances = count + m; deep = 0; how = Refused r }) ≡ readOf s at count)
           × (row ≡ rowOf s at count row)
       go true q = let z = read-limit s at count (rw (o .1) q) in (sym (z .0), sym (z .1 row))
       go false q = let z = read-error s at count (rw (o .1) q) r (o .0) in (rw (← (o .1)) (sym (z .0)), sym (z .1 row))

@@ -11,15 +11,17 @@ use lib.ListN.{drop, drop-of-length-le, getD, length, length-replicate, length-s
 use lib.Seq.{drop-cons, getD-set-other, getD-set-same, getD-take, length-take-le, set-getD, set-out}
 use borrow.Author.Tests.{eqb-false, eqb-true, le-leb, le-ltb, leb-true, lt-leb, lt-ltb}
 use Rattle.utf8.specs.Utf8.{widthOf}
+use Rattle.scan.specs.Deepens.{deeper-none}
+use Rattle.scan.specs.Depth.{deeper}
 use Rattle.scan.specs.Far.{Far, after}
 use Rattle.scan.specs.Near.{wide}
 use Rattle.scan.specs.Until.{left}
 use Rattle.reading.specs.Attribute.{attempt}
 use Rattle.reading.specs.declared.Attempt.{Attempt}
 use Rattle.reading.specs.declared.Attempt.the-variants.{Closed, Failed}
-use Rattle.sheet.specs.Adds.{between, emptySheet, enter, failing, fails, textsTaken, upTo, workLimit}
+use Rattle.sheet.specs.Adds.{between, deepestIn, emptySheet, enter, failing, fails, textsTaken, upTo, workLimit}
 use Rattle.sheet.specs.Apart.{Stand, commented, comments, inBlock, inLine, nested, opened, outside, second, whites}
-use Rattle.sheet.specs.Sheet.{isSheet, plus, within}
+use Rattle.sheet.specs.Sheet.{added, isSheet, plus, within}
 
 -- ---- a number more
 pub enter-length : (i n : ℕ) (l : List ℕ) → length (enter i n l) ≡ length l
@@ -106,6 +108,29 @@ plus-zeros (suc n) (x ∷ xs) = let e : x + 0 ≡ x = omega arith in rw (e, plus
 pub plus-empty : (xs : List ℕ) → plus xs emptySheet ≡ xs
 unfolding emptySheet
 plus-empty xs = plus-zeros 96 xs
+
+-- ---- sums, and of the depths the greater
+module _ (xs ys : List ℕ) where
+  pub added-length : length (added xs ys) ≡ length xs
+  unfolding added
+  added-length = length-set (plus xs ys) deepestIn _ ∙ plus-length xs ys
+
+  pub added-at : (i : ℕ) → eqb i deepestIn ≡ false → i < length xs → getD (added xs ys) i 0 ≡ getD xs i 0 + getD ys i 0
+  unfolding added
+  added-at i e h = getD-set-other (plus xs ys) deepestIn i _ 0 (eqb-false i deepestIn e) ∙ plus-at xs ys i h
+
+  module _ (h : deepestIn < length xs) where
+    pub added-deep : getD (added xs ys) deepestIn 0 ≡ deeper (getD xs deepestIn 0) (getD ys deepestIn 0)
+    unfolding added
+    added-deep = getD-set-same (plus xs ys) deepestIn _ 0 (omega (arith, h, plus-length xs ys))
+
+    -- where no depth is added they are sums
+    pub added-sums : getD ys deepestIn 0 ≡ 0 → added xs ys ≡ plus xs ys
+    unfolding added
+    added-sums e =
+        let a = plus-at xs ys deepestIn h in
+        let b : deeper (getD xs deepestIn 0) (getD ys deepestIn 0) ≡ getD (plus xs ys) deepestIn 0 = ap (deeper (getD xs deepestIn 0)) e ∙ deeper-none (getD xs deepestIn 0) ∙ omega (arith, a, e) in
+        ap (λ (v : ℕ). set (plus xs ys) deepestIn v) b ∙ set-getD (plus xs ys) deepestIn 0
 
 -- ---- the characters before a place
 before-none : (cs : List ℕ) (a : ℕ) → upTo cs a a ≡ []

@@ -12,7 +12,7 @@ use Rattle.reading.specs.declared.Tokenizer.{Tokenizer}
 use Rattle.reading.specs.declared.What.{What}
 use Rattle.reading.specs.declared.What.the-variants.{End, Error, Got}
 use Rattle.run.specs.Pending.{running}
-use Rattle.sheet.specs.Adds.{between, drops, fails, gapEntered, tokenEntered, workLimit}
+use Rattle.sheet.specs.Adds.{between, drops, fails, gapEntered, tokenDepth, tokenEntered, workLimit}
 use Rattle.sheet.specs.declared.Part.{Part}
 use Rattle.sheet.specs.declared.Read.{Read}
 
@@ -24,14 +24,14 @@ partOf s t = record { width = length (between s (t .start) (t .end)); dropped = 
 unfoldable pub callOf : List ℕ → ℕ → ℕ → Stepped
 callOf s at count = step s 0 workLimit (running at count)
 
--- where it leads, or how the text ends
-abbrev pub readBy : What → Tokenizer → Read
-readBy (Got t) u = record { going = true; at = u .at; advances = u .count; how = Running }
-readBy (Error r) u = record { going = false; at = 0; advances = u .count; how = Refused r }
-readBy End u = record { going = false; at = 0; advances = u .count; how = Ended }
+-- where it leads, or how the text ends, and how deep the comments go that it read; those of an error are not told
+abbrev pub readBy : What → Tokenizer → ℕ → Read
+readBy (Got t) u g = record { going = true; at = u .at; advances = u .count; deep = tokenDepth t; how = Running }
+readBy (Error r) u g = record { going = false; at = 0; advances = u .count; deep = 0; how = Refused r }
+readBy End u g = record { going = false; at = 0; advances = u .count; deep = g; how = Ended }
 
 unfoldable pub readOf : List ℕ → ℕ → ℕ → Read
-readOf s at count = readBy (callOf s at count .what) (callOf s at count .next)
+readOf s at count = readBy (callOf s at count .what) (callOf s at count .next) (callOf s at count .«gap_depth»)
 
 -- what it enters: an error nothing
 abbrev pub rowBy : List ℕ → ℕ → What → List ℕ → List ℕ

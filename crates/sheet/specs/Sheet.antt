@@ -4,15 +4,16 @@ use Prim.Native.Nat.{_*_, _+_, ℕ}
 use mathlib.Core.Bool.{Bool, _&&_, cond, true}
 use mathlib.Core.List.{List, [], _∷_}
 use lib.Dec.{leb, ltb}
-use lib.ListN.{getD, length, take}
+use lib.ListN.{getD, length, set, take}
 use Rattle.record.specs.Checks.{checks}
 use Rattle.record.specs.Records.{refusal}
 use Rattle.record.specs.declared.Checked.{Checked}
 use Rattle.record.specs.declared.Checked.the-variants.{Passed, Refused as Stopped}
 use Rattle.record.specs.declared.Code.the-variants.{BadRecord, NoRoom, SheetFull}
+use Rattle.scan.specs.Depth.{deeper}
 use Rattle.reading.specs.declared.Outcome.{Outcome}
 use Rattle.reading.specs.declared.Outcome.the-variants.{Ended, Refused as Failed, Running}
-use Rattle.sheet.specs.Adds.{adds, sheetSize, story, textsTaken, workLimit}
+use Rattle.sheet.specs.Adds.{adds, deepestIn, sheetSize, story, textsTaken, workLimit}
 use Rattle.sheet.specs.declared.Taken.{Taken}
 use Rattle.sheet.specs.declared.Taken.the-variants.{Refused, Tallied, Whole}
 
@@ -52,10 +53,14 @@ plus [] ys = []
 plus (x ∷ xs) [] = x ∷ xs
 plus (x ∷ xs) (y ∷ ys) = (x + y) ∷ plus xs ys
 
+-- 02, E4: "the sheet the largest": of the depths the greater stays, and not their sum
+unfoldable pub added : List ℕ → List ℕ → List ℕ
+added sheet row = set (plus sheet row) deepestIn (deeper (getD sheet deepestIn 0) (getD row deepestIn 0))
+
 -- what a sheet holds afterwards
 abbrev pub heldBy : Taken → List ℕ → List ℕ → List ℕ
-heldBy Whole s sheet = plus sheet (adds s)
-heldBy (Tallied r) s sheet = plus sheet (adds s)
+heldBy Whole s sheet = added sheet (adds s)
+heldBy (Tallied r) s sheet = added sheet (adds s)
 heldBy (Refused r) s sheet = sheet
 
 unfoldable pub held : List ℕ → List ℕ → List ℕ

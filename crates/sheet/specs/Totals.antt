@@ -8,10 +8,12 @@ use Rattle.record.specs.Checks.{checks}
 use Rattle.record.specs.declared.Checked.{Checked}
 use Rattle.record.specs.declared.Checked.the-variants.{Passed, Refused as Stopped}
 use Rattle.record.specs.declared.Token.{Token}
+use Rattle.scan.specs.Depth.{deeper}
 use Rattle.reading.specs.Measures.{attempts}
+use Rattle.reading.specs.Run.{Run}
 use Rattle.reading.specs.declared.Outcome.{Outcome}
 use Rattle.reading.specs.declared.Outcome.the-variants.{Ended, Refused as Failed, Running}
-use Rattle.sheet.specs.Adds.{adds, story}
+use Rattle.sheet.specs.Adds.{adds, greatest, story}
 use Rattle.sheet.specs.Sheet.{held, taken}
 use Rattle.sheet.specs.declared.Taken.{Taken}
 use Rattle.sheet.specs.declared.Taken.the-variants.{Refused, Tallied, Whole}
@@ -31,10 +33,16 @@ unfoldable pub takenOf : List (List ℕ) → List ℕ → List (List ℕ)
 takenOf [] sheet = []
 takenOf (s ∷ ss) sheet = cond (isTaken (taken s sheet)) (s ∷ takenOf ss (held s sheet)) (takenOf ss (held s sheet))
 
--- a sum over texts
-unfoldable pub sumOf : (List ℕ → ℕ) → List (List ℕ) → ℕ
-sumOf f [] = 0
-sumOf f (s ∷ ss) = f s + sumOf f ss
+-- what texts come to together: a sum over them, or the greatest of them
+unfoldable pub together : (ℕ → ℕ → ℕ) → (List ℕ → ℕ) → List (List ℕ) → ℕ
+together op f [] = 0
+together op f (s ∷ ss) = op (f s) (together op f ss)
+
+abbrev pub sumOf : (List ℕ → ℕ) → List (List ℕ) → ℕ
+sumOf f ss = together _+_ f ss
+
+abbrev pub greatestOf : (List ℕ → ℕ) → List (List ℕ) → ℕ
+greatestOf f ss = together deeper f ss
 
 -- what a text adds to the number i of a sheet
 abbrev pub addsTo : ℕ → List ℕ → ℕ
@@ -48,6 +56,15 @@ charsBy Running s = 0
 
 unfoldable pub reached : List ℕ → ℕ
 reached s = charsBy (story s .how) s
+
+-- how deep its comments go, in gaps and in code; 02, E4, as decided: of a text that reached its end
+abbrev pub deepBy : Outcome → Run → ℕ
+deepBy Ended r = greatest r
+deepBy (Failed z) r = 0
+deepBy Running r = 0
+
+unfoldable pub depth : List ℕ → ℕ
+depth s = deepBy (story s .how) (story s)
 
 abbrev pub costBy : Outcome → List ℕ → List Token → ℕ
 costBy Ended s ts = attempts s 0 ts

@@ -17,14 +17,14 @@ ghost use Rattle.record.specs.Checks.{checks};
 ghost use Rattle.record.specs.Records.{refusal};
 ghost use Rattle.record.specs.declared.Checked.the-variants.{Passed};
 ghost use Rattle.record.specs.declared.Code.the-variants.{WorkLimit};
+ghost use Rattle.scan.specs.Depth.{deeper};
 ghost use Rattle.scan.specs.Until.{left};
 ghost use Rattle.reading.specs.Next.{tokenOrEnd};
 ghost use Rattle.reading.specs.declared.Outcome.the-variants.{Ended, Refused};
-ghost use Rattle.reading.specs.declared.What.the-variants.{Got};
-ghost use Rattle.sheet.specs.Adds.{droppedAfter, emptySheet, enter, entered, failedIn, inComments, inTokens, inWhitespace, sheetSize, story, workLimit};
+ghost use Rattle.sheet.specs.Adds.{droppedAfter, emptySheet, enter, entered, failedIn, greatest, inComments, inTokens, inWhitespace, sheetSize, story, workLimit};
 ghost use Rattle.sheet.specs.Calls.{Gapped, Going};
 ghost use Rattle.sheet.specs.Laws.{Below};
-ghost use Rattle.sheet.specs.Parts.{sharpPart};
+ghost use Rattle.sheet.specs.Parts.{Delivers, sharpPart};
 ghost use Rattle.sheet.specs.Reads.{partOf, readOf, rowOf};
 
 // 2^50 advances.
@@ -99,7 +99,7 @@ fn sharp(k: u8, end: u64, to: u64, n: u64) -> Part
 
 // What the token t at p adds, whose call went on to a place after n advances.
 fn part(text: &[u8], p: usize, t: Token, to: u64, n: u64) -> Part
-    requires { ⌜ tokenOrEnd (left (now text) p) p ≡ record { what = Got t; at = to; advances = n } ⌝ }
+    requires { ⌜ Delivers (tokenOrEnd (left (now text) p) p) t to n ⌝ }
     ensures { λ r. ⌜ r ≡ partOf (now (text .entry)) t ⌝ }
 {
     if scan::is_next(text, p, signs::HASH) {
@@ -115,12 +115,13 @@ fn part(text: &[u8], p: usize, t: Token, to: u64, n: u64) -> Part
 
 // The call at a place would take the advances above the limit.
 fn limited(at: usize, count: u64) -> Read
-    ensures { λ r. ⌜ r ≡ record { going = false; at = 0; advances = count; how = Refused (refusal WorkLimit at) } ⌝ }
+    ensures { λ r. ⌜ r ≡ record { going = false; at = 0; advances = count; deep = 0; how = Refused (refusal WorkLimit at) } ⌝ }
 {
     Read {
         going: false,
         at: 0,
         advances: count,
+        deep: 0,
         how: Outcome::Refused(Refusal {
             code: Code::WorkLimit,
             place: at as u64,
@@ -129,29 +130,40 @@ fn limited(at: usize, count: u64) -> Read
 }
 
 // The text ends so.
-fn over(advances: u64, how: Outcome) -> Read
-    ensures { λ r. ⌜ r ≡ record { going = false; at = 0; advances = advances; how = how } ⌝ }
+fn over(advances: u64, deep: u64, how: Outcome) -> Read
+    ensures { λ r. ⌜ r ≡ record { going = false; at = 0; advances = advances; deep = deep; how = how } ⌝ }
 {
     Read {
         going: false,
         at: 0,
         advances,
+        deep,
         how,
     }
+}
+
+// The greater of two depths.
+pub(crate) fn greater(a: u64, b: u64) -> u64
+    ensures { λ r. ⌜ r ≡ deeper a b ⌝ }
+{
+    if a < b {
+        return b;
+    }
+    a
 }
 
 // A comment does not end, after n advances of its call.
 fn lost(at: usize, count: u64, r: Refusal, n: u64) -> Read
     requires { ⌜ (count ≤ workLimit) × (n ≤ 0xFFFFFFFF) ⌝ }
-    ensures { λ k. ⌜ k ≡ cond (ltb workLimit (count + n)) (record { going = false; at = 0; advances = count; how = Refused (refusal WorkLimit at) }) (record { going = false; at = 0; advances = count + n; how = Refused r }) ⌝ }
+    ensures { λ k. ⌜ k ≡ cond (ltb workLimit (count + n)) (record { going = false; at = 0; advances = count; deep = 0; how = Refused (refusal WorkLimit at) }) (record { going = false; at = 0; advances = count + n; deep = 0; how = Refused r }) ⌝ }
 {
     if WORK_LIMIT < count + n {
         return limited(at, count);
     }
-    over(count + n, Outcome::Refused(r))
+    over(count + n, 0, Outcome::Refused(r))
 }
 
-// The call at a place whose gap ends at p.
+// The call at a place whose gap ends at p, with comments so deep.
 fn after_gap(
     text: &[u8],
     row: &mut [u64],
@@ -160,8 +172,9 @@ fn after_gap(
     p: usize,
     white: u64,
     comment: u64,
+    deep: u64,
 ) -> Read
-    requires { ⌜ Going (now text) at count (now row) × Gapped (now text) at count p white comment ⌝ }
+    requires { ⌜ Going (now text) at count (now row) × Gapped (now text) at count p white comment deep ⌝ }
     ensures { λ r. ⌜ (r ≡ readOf (now (text .entry)) at count) × (now (row .exit) ≡ rowOf (now (text .entry)) at count (now (row .entry))) ⌝ }
 {
     let x = tok::next::token_or_end(text, p);
@@ -182,13 +195,14 @@ fn after_gap(
                 going: true,
                 at: to as usize,
                 advances: total,
+                deep: greater(deep, x.code_depth),
                 how: Outcome::Running,
             }
         }
-        What::Error(r) => over(total, Outcome::Refused(r)),
+        What::Error(r) => over(total, 0, Outcome::Refused(r)),
         What::End => {
             gap_onto(row, white, comment);
-            over(total, Outcome::Ended)
+            over(total, deep, Outcome::Ended)
         }
     }
 }
@@ -200,9 +214,16 @@ fn turn(text: &[u8], row: &mut [u64], at: usize, count: u64) -> Read
 {
     match crate::gaps::apart(text, at) {
         Gap::Open(r, m) => lost(at, count, r, m as u64),
-        Gap::Blank(p, white, comment) => {
-            after_gap(text, row, at, count, p, white as u64, comment as u64)
-        }
+        Gap::Blank(p, white, comment, deep) => after_gap(
+            text,
+            row,
+            at,
+            count,
+            p,
+            white as u64,
+            comment as u64,
+            deep as u64,
+        ),
     }
 }
 
@@ -216,17 +237,22 @@ pub(crate) fn read_all(text: &[u8], row: &mut [u64]) -> Read
         × Below 0x400000000 (now (row .exit))
         × (length (now (row .exit)) ≡ sheetSize)
         × (r .advances ≤ workLimit)
+        × (r .how ≡ Ended → r .deep ≡ greatest (story (now (text .entry))))
+        × (r .deep ≤ 0x7FFFFFFF)
         ⌝ }
 {
     let mut at: usize = 0;
     let mut count: u64 = 0;
+    let mut deep: u64 = 0;
     loop {
         let r = turn(text, row, at, count);
+        deep = greater(deep, r.deep);
         if r.going {
             at = r.at;
             count = r.advances;
         } else {
-            return r;
+            let how = r.how;
+            return over(r.advances, deep, how);
         }
     }
 }

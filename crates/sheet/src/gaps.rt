@@ -14,29 +14,35 @@ fn apart_far(s: &[u8], from: usize) -> Gap
     let mut at = from;
     let mut white: usize = 0;
     let mut comment: usize = 0;
+    let mut deep: usize = 0;
     loop {
         let to = tok::gaps::gap_run(s, at);
         white += to - at;
         at = to;
         match utf8::char_at(s, at) {
-            Sight::Char { code, width } => match tok::gaps::gap_turn(s, at, at + width, code) {
-                Turn::Stop => {
-                    return Gap::Blank(at, white, comment);
-                }
-                Turn::Fail(r, _, m) => {
-                    return Gap::Open(r, white + comment + 1 + m);
-                }
-                Turn::Pass(p, m, _) => {
-                    at = p;
-                    if code == signs::SLASH {
-                        comment = comment + 1 + m;
-                    } else {
-                        white = white + 1;
+            Sight::Char { code, width } => {
+                let x = tok::gaps::gap_turn(s, at, at + width, code);
+                let what = x.turn;
+                match what {
+                    Turn::Stop => {
+                        return Gap::Blank(at, white, comment, deep);
+                    }
+                    Turn::Fail(r, _, m) => {
+                        return Gap::Open(r, white + comment + 1 + m);
+                    }
+                    Turn::Pass(p, m, _) => {
+                        at = p;
+                        if code == signs::SLASH {
+                            comment = comment + 1 + m;
+                            deep = scan::deeper(deep, x.depth);
+                        } else {
+                            white = white + 1;
+                        }
                     }
                 }
-            },
+            }
             Sight::End => {
-                return Gap::Blank(at, white, comment);
+                return Gap::Blank(at, white, comment, deep);
             }
         }
     }
@@ -51,7 +57,7 @@ pub fn apart(s: &[u8], from: usize) -> Gap
         let x = s[to];
         if x < 128 {
             if x != b'/' {
-                return Gap::Blank(to, to - from, 0);
+                return Gap::Blank(to, to - from, 0, 0);
             }
         }
     }

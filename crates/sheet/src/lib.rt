@@ -14,7 +14,7 @@ ghost use Rattle.record.specs.Checks.{checks};
 ghost use Rattle.record.specs.Records.{refusal};
 ghost use Rattle.record.specs.declared.Checked.the-variants.{Passed};
 ghost use Rattle.sheet.specs.Adds.{adds, emptySheet, sheetSize, story, textsTaken};
-ghost use Rattle.sheet.specs.Sheet.{held, isSheet, mostTexts, plus, taken, takenAs};
+ghost use Rattle.sheet.specs.Sheet.{added, held, isSheet, mostTexts, plus, taken, takenAs};
 ghost use Rattle.sheet.specs.declared.Taken.the-variants.{Refused};
 
 // How many numbers a sheet has; 0 to 53 are the tokens of each kind.
@@ -23,6 +23,8 @@ pub const SHEET_SIZE: usize = 96;
 const ADVANCES_IN: usize = 58;
 
 const TEXTS_TAKEN: usize = 60;
+
+const DEEPEST_IN: usize = 61;
 
 const TALLIES: usize = 64;
 
@@ -36,9 +38,10 @@ pub enum Taken {
     Refused(Refusal),
 }
 
-// Where a gap ends, and how many of its characters are whitespace and how many are of comments; or a comment that does not end, with the advances.
+// Where a gap ends, how many of its characters are whitespace and how many are of comments, and how deep its comments go; or a comment that does not end,
+// with the advances.
 pub enum Gap {
-    Blank(usize, usize, usize),
+    Blank(usize, usize, usize, usize),
     Open(Refusal, usize),
 }
 
@@ -49,11 +52,12 @@ pub struct Part {
     pub failed: u64,
 }
 
-// Where a call of a text leads, with the advances so far; or, where it is not going, how the text ended.
+// Where a call of a text leads, with the advances so far; or, where it is not going, how the text ended. Beside it how deep the comments go.
 pub struct Read {
     pub going: bool,
     pub at: usize,
     pub advances: u64,
+    pub deep: u64,
     pub how: Outcome,
 }
 
@@ -95,7 +99,7 @@ fn empty_row() -> [u64; SHEET_SIZE]
 // A text that passed the checks, onto a sheet that has room for it.
 fn add(text: &[u8], sheet: &mut [u64]) -> Taken
     requires { ⌜ (checks (now text) 0 ≡ Passed) × (sheetSize ≤ length (now sheet)) × (getD (now sheet) textsTaken 0 < mostTexts) × (isSheet (now sheet) ≡ true) ⌝ }
-    ensures { λ r. ⌜ (r ≡ takenAs (story (now (text .entry)) .how)) × (now (sheet .exit) ≡ plus (now (sheet .entry)) (adds (now (text .entry)))) ⌝ }
+    ensures { λ r. ⌜ (r ≡ takenAs (story (now (text .entry)) .how)) × (now (sheet .exit) ≡ added (now (sheet .entry)) (adds (now (text .entry)))) ⌝ }
 {
     let mut row = empty_row();
     let read = alone::read_all(text, &mut row);
@@ -103,8 +107,11 @@ fn add(text: &[u8], sheet: &mut [u64]) -> Taken
     match how {
         Outcome::Ended => {
             alone::enter(&mut row, ADVANCES_IN, read.advances);
+            alone::enter(&mut row, DEEPEST_IN, read.deep);
             alone::enter(&mut row, TEXTS_TAKEN, 1);
+            let deep = alone::greater(sheet[DEEPEST_IN], row[DEEPEST_IN]);
             sum_onto(sheet, &row);
+            sheet[DEEPEST_IN] = deep;
             Taken::Whole
         }
         Outcome::Refused(r) => {

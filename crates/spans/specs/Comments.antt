@@ -67,7 +67,7 @@ slash-star d xs rest at n h =
     one-on (Open d) (Slash d) 47 (42 ∷ xs) rest at n refl refl (one-on (Slash d) (Open (d + 1)) 42 xs rest (at + widthOf 47) (n + 1) refl refl h)
 
 -- a comment isn't empty
-some : {d : ℕ} {xs : List ℕ} → Comment d xs → xs ≡ [] → ⊥
+pub some : {d : ℕ} {xs : List ℕ} → Comment d xs → xs ≡ [] → ⊥
 some ends e = let w : _≡_ {A = ℕ} 0 1 = cc in omega arith
 some (closes h) e = let w : _≡_ {A = ℕ} 0 1 = cc in omega arith
 some (opens h) e = let w : _≡_ {A = ℕ} 0 1 = cc in omega arith

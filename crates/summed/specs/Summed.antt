@@ -28,6 +28,9 @@ failedIn = 59
 abbrev pub textsTaken : ℕ
 textsTaken = 60
 
+abbrev pub deepestIn : ℕ
+deepestIn = 61
+
 abbrev pub tallies : ℕ
 tallies = 64
 
@@ -117,6 +120,7 @@ recordedOnto s recorded row = cond (isRefused (getD recorded codeAt 0)) row (mor
 unfoldable pub joined : ℕ → ℕ → List ℕ → List ℕ
 joined i onto sheet = set (more onto (getD sheet i 0) sheet) i 0
 
--- a sheet laid out as a row: its whitespace and its comments count together; so do 22 and 23, as the Rust's 1 (02, E3: "the finer two mapped back to 1")
+-- a sheet laid out as a row: its whitespace and its comments count together; so do 22 and 23, as the Rust's 1 (02, E3: "the finer two mapped back to 1");
+-- how deep comments go (02, E4) the Rust's answers do not tell, so that is left out
 unfoldable pub asRow : List ℕ → List ℕ
-asRow sheet = joined (tallies + 23) (tallies + 1) (joined (tallies + 22) (tallies + 1) (joined inComments inGaps sheet))
+asRow sheet = set (joined (tallies + 23) (tallies + 1) (joined (tallies + 22) (tallies + 1) (joined inComments inGaps sheet))) deepestIn 0

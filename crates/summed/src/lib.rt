@@ -21,6 +21,8 @@ const FAILED_IN: usize = 59;
 
 const TEXTS_TAKEN: usize = 60;
 
+const DEEPEST_IN: usize = 61;
+
 const TALLIES: usize = 64;
 
 // The tallies of the Rust's one code for what is unknown, and of the two that it became.
@@ -207,11 +209,12 @@ fn join(sheet: &mut [u64], i: usize, onto: usize)
     clear(sheet, i);
 }
 
-// A sheet laid out as a row: whitespace and comments together, and what the Rust has one code for. It is held against a row by `recorded::numbers_differ`.
+// A sheet laid out as a row: whitespace and comments together, what the Rust has one code for, and no depth of comments, which the Rust does not tell. It is held against a row by `recorded::numbers_differ`.
 pub fn as_row(sheet: &mut [u64])
     ensures { λ _. ⌜ now (sheet .exit) ≡ asRow (now (sheet .entry)) ⌝ }
 {
     join(sheet, IN_COMMENTS, IN_GAPS);
     join(sheet, HALF_SYMBOL, UNRECOGNIZED_TOKEN);
     join(sheet, STRAY_CHARACTER, UNRECOGNIZED_TOKEN);
+    clear(sheet, DEEPEST_IN);
 }

@@ -9,9 +9,18 @@ use Rattle.text.specs.Names.{codeName, kindName}
 unfoldable pub tokenLine : ℕ → ℕ → ℕ → List ℕ
 tokenLine kind start end = join (digits start ∷ bytes " " ∷ digits end ∷ bytes " " ∷ kindName kind ∷ bytes "\n" ∷ [])
 
+-- 02, E4: "`list --depth` adds the two depths to each line": of the gap before the token, and of its code
+unfoldable pub depthLine : ℕ → ℕ → ℕ → ℕ → ℕ → List ℕ
+depthLine kind start end gap code =
+    join (digits start ∷ bytes " " ∷ digits end ∷ bytes " " ∷ kindName kind ∷ bytes " " ∷ digits gap ∷ bytes " " ∷ digits code ∷ bytes "\n" ∷ [])
+
 -- 01: "end advances 11"
 unfoldable pub endLine : ℕ → List ℕ
 endLine advances = join (bytes "end advances " ∷ digits advances ∷ bytes "\n" ∷ [])
+
+-- 02, E4: "and the last gap's to the end's"
+unfoldable pub endDepthLine : ℕ → ℕ → List ℕ
+endDepthLine advances depth = join (bytes "end advances " ∷ digits advances ∷ bytes " depth " ∷ digits depth ∷ bytes "\n" ∷ [])
 
 -- 01: "Its error line is `error NAME at P advances A`."
 unfoldable pub errorLine : ℕ → ℕ → ℕ → List ℕ

@@ -12,18 +12,22 @@ use Rattle.text.specs.Digits.{digits}
 use Rattle.text.specs.NameLaws.{Named, code-short, endsFrom, fits-at, kind-short, named, named-at, right, short, short-at}
 use Rattle.text.specs.Names.{codeName, kindName, same}
 use Rattle.text.specs.declared.Piece.{Piece}
-use Rattle.text.specs.declared.Piece.the-variants.{Code, Kind, Nothing, Number, Phrase}
+use Rattle.text.specs.declared.Piece.the-variants.{Code, Kind, Nothing, Number, Phrase, Spaced}
 
 unfoldable pub phrases : List (List ℕ)
 phrases =
-    bytes " " ∷ bytes "\n" ∷ bytes "end advances " ∷ bytes "error " ∷ bytes " at " ∷ bytes " advances " ∷ bytes "end records " ∷ bytes " payload " ∷ bytes " bytes" ∷ bytes ":" ∷ bytes ": " ∷ bytes " (limit " ∷ bytes ")\n" ∷ []
+    bytes " " ∷ bytes "\n" ∷ bytes "end advances " ∷ bytes "error " ∷ bytes " at " ∷ bytes " advances " ∷ bytes "end records " ∷ bytes " payload " ∷ bytes " bytes" ∷ bytes ":" ∷ bytes ": " ∷ bytes " (limit " ∷ bytes ")\n" ∷ bytes " depth " ∷ []
 
 unfoldable pub phrase : ℕ → List ℕ
 phrase i = getD phrases i []
 
+unfoldable pub spaced : ℕ → List ℕ
+spaced n = bytes " " ++ digits n
+
 abbrev pub pieceBytes : Piece → List ℕ
 pieceBytes (Phrase i) = phrase i
 pieceBytes (Number n) = digits n
+pieceBytes (Spaced n) = spaced n
 pieceBytes (Kind n) = kindName n
 pieceBytes (Code n) = codeName n
 pieceBytes Nothing = []
@@ -36,10 +40,21 @@ pub phrase-short : (n : ℕ) → length (phrase n) ≤ 29
 unfolding bytes phrase phrases short
 phrase-short n = short-at 29 phrases n refl
 
+spaced-short : (n : ℕ) → length (spaced n) ≤ 29
+unfolding bytes spaced
+spaced-short n = let h = at-most-twenty n in omega (arith, h)
+
+-- a space and then the digits
+pub spaced-on : (d : List ℕ) (at n to : ℕ) (e : List ℕ) (r : ℕ) (x : List ℕ) → to ≡ at + length (phrase 0) → e ≡ sets d at (phrase 0)
+    → r ≡ to + length (digits n) → x ≡ sets e to (digits n) → (r ≡ at + length (spaced n)) × (x ≡ sets d at (spaced n))
+unfolding bytes phrase phrases spaced
+spaced-on d at n to e r x h k f g = (omega (arith, h, f), g ∙ rw (k, h) (sym (sets-append (bytes " ") (digits n) d at)))
+
 -- no piece is longer than this
 pub piece-short : (p : Piece) → length (pieceBytes p) ≤ 29
 piece-short (Phrase i) = phrase-short i
 piece-short (Number n) = let h = at-most-twenty n in omega (arith, h)
+piece-short (Spaced n) = spaced-short n
 piece-short (Kind n) = kind-short n
 piece-short (Code n) = code-short n
 piece-short Nothing = omega arith
@@ -52,15 +67,15 @@ abbrev phraseEnds : List ℕ
 phraseEnds = endsFrom 0 phrases
 
 module _ (n at m : ℕ) where
-  pub phrase-fits : n < 13 → at + 29 ≤ m → Named phraseText phraseEnds n (n + 1) × (at + (getD phraseEnds (n + 1) 0 - getD phraseEnds n 0) ≤ m)
+  pub phrase-fits : n < 14 → at + 29 ≤ m → Named phraseText phraseEnds n (n + 1) × (at + (getD phraseEnds (n + 1) 0 - getD phraseEnds n 0) ≤ m)
   unfolding bytes endsFrom join phrases right same short
   phrase-fits h = fits-at phraseText phraseEnds phrases n at m refl refl h
 
-pub phrase-named : (n : ℕ) → n < 13 → named phraseText phraseEnds n (n + 1) ≡ phrase n
+pub phrase-named : (n : ℕ) → n < 14 → named phraseText phraseEnds n (n + 1) ≡ phrase n
 unfolding bytes endsFrom join phrase phrases right same
 phrase-named n h = named-at phraseText phraseEnds phrases n refl h .1
 
-pub phrase-none : (n : ℕ) → 13 ≤ n → phrase n ≡ []
+pub phrase-none : (n : ℕ) → 14 ≤ n → phrase n ≡ []
 unfolding bytes phrase phrases
 phrase-none n h = List·getD-eq-default phrases [] h
 

@@ -8,6 +8,7 @@ use names::CODE_ENDS;
 use names::CODE_NAMES;
 use names::COLON;
 use names::COLON_SPACE;
+use names::DEPTH;
 use names::END_ADVANCES;
 use names::END_RECORDS;
 use names::ERROR;
@@ -26,8 +27,8 @@ ghost use Rattle.text.specs.Digits.{digits, width};
 ghost use Rattle.text.specs.Names.{codeName, kindName};
 ghost use Rattle.text.specs.Lay.{lay};
 ghost use Rattle.text.specs.declared.Came.the-variants.{To};
-ghost use Rattle.text.specs.Pieces.{allBytes, phrase, pieceBytes};
-ghost use Rattle.text.specs.Lines.{endLine, errorLine, headerLine, limitLine, peopleLine, placeLine, recordsLine, refusalLine, tokenLine};
+ghost use Rattle.text.specs.Pieces.{allBytes, phrase, pieceBytes, spaced};
+ghost use Rattle.text.specs.Lines.{depthLine, endDepthLine, endLine, errorLine, headerLine, limitLine, peopleLine, placeLine, recordsLine, refusalLine, tokenLine};
 ghost use Rattle.text.specs.NameLaws.{Named, named};
 
 // How far bytes came that were put into a buffer; or they did not fit, and none was put.
@@ -146,16 +147,26 @@ fn phrase_in(out: &mut [u8], at: usize, i: usize) -> usize
     requires { ⌜ at + 29 ≤ length (now out) ⌝ }
     ensures { λ r. ⌜ (r ≡ at + length (phrase i)) × (now (out .exit) ≡ sets (now (out .entry)) at (phrase i)) ⌝ }
 {
-    if 13 <= i {
+    if 14 <= i {
         return at;
     }
     name_in(out, at, &PHRASES, &PHRASE_ENDS, i)
+}
+
+// A space and a number's digits, for which there is room.
+fn spaced_in(out: &mut [u8], at: usize, n: u64) -> usize
+    requires { ⌜ at + 29 ≤ length (now out) ⌝ }
+    ensures { λ r. ⌜ (r ≡ at + length (spaced n)) × (now (out .exit) ≡ sets (now (out .entry)) at (spaced n)) ⌝ }
+{
+    let to = phrase_in(out, at, SPACE);
+    number_in(out, to, n)
 }
 
 // What a line is made of.
 pub enum Piece {
     Phrase(usize),
     Number(u64),
+    Spaced(u64),
     Kind(u64),
     Code(u64),
     Nothing,
@@ -168,6 +179,7 @@ fn piece_in(out: &mut [u8], at: usize, p: Piece) -> usize
     match p {
         Piece::Phrase(i) => phrase_in(out, at, i),
         Piece::Number(n) => number_in(out, at, n),
+        Piece::Spaced(n) => spaced_in(out, at, n),
         Piece::Kind(n) => kind_in(out, at, n),
         Piece::Code(n) => code_in(out, at, n),
         Piece::Nothing => at,
@@ -212,6 +224,34 @@ pub fn token_line(out: &mut [u8], from: Came, kind: u64, start: u64, end: u64) -
     )
 }
 
+// The same with two depths: of the comments in the gap before the token, and in its code.
+pub fn depth_line(
+    out: &mut [u8],
+    from: Came,
+    kind: u64,
+    start: u64,
+    end: u64,
+    gap: u64,
+    code: u64,
+) -> Came
+    ensures { λ r. ⌜ (r ≡ lay (now (out .entry)) from (depthLine kind start end gap code) .to) × (now (out .exit) ≡ lay (now (out .entry)) from (depthLine kind start end gap code) .held) ⌝ }
+{
+    compose(
+        out,
+        from,
+        [
+            Piece::Number(start),
+            Piece::Spaced(end),
+            Piece::Phrase(SPACE),
+            Piece::Kind(kind),
+            Piece::Spaced(gap),
+            Piece::Spaced(code),
+            Piece::Phrase(NEWLINE),
+            Piece::Nothing,
+        ],
+    )
+}
+
 // The last line of a listing that reached the end.
 pub fn end_line(out: &mut [u8], from: Came, advances: u64) -> Came
     ensures { λ r. ⌜ (r ≡ lay (now (out .entry)) from (endLine advances) .to) × (now (out .exit) ≡ lay (now (out .entry)) from (endLine advances) .held) ⌝ }
@@ -225,6 +265,26 @@ pub fn end_line(out: &mut [u8], from: Came, advances: u64) -> Came
             Piece::Phrase(NEWLINE),
             Piece::Nothing,
             Piece::Nothing,
+            Piece::Nothing,
+            Piece::Nothing,
+            Piece::Nothing,
+        ],
+    )
+}
+
+// The same with the depth of the last gap's comments.
+pub fn end_depth_line(out: &mut [u8], from: Came, advances: u64, depth: u64) -> Came
+    ensures { λ r. ⌜ (r ≡ lay (now (out .entry)) from (endDepthLine advances depth) .to) × (now (out .exit) ≡ lay (now (out .entry)) from (endDepthLine advances depth) .held) ⌝ }
+{
+    compose(
+        out,
+        from,
+        [
+            Piece::Phrase(END_ADVANCES),
+            Piece::Number(advances),
+            Piece::Phrase(DEPTH),
+            Piece::Number(depth),
+            Piece::Phrase(NEWLINE),
             Piece::Nothing,
             Piece::Nothing,
             Piece::Nothing,

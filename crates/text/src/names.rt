@@ -98,10 +98,10 @@ pub const CODE_ENDS: [usize; 31] = [
 ];
 
 // The phrases of the lines, likewise, and their indexes.
-pub const PHRASES: [u8; 75] =
-    *b" \nend advances error  at  advances end records  payload  bytes::  (limit )\n";
+pub const PHRASES: [u8; 82] =
+    *b" \nend advances error  at  advances end records  payload  bytes::  (limit )\n depth ";
 
-pub const PHRASE_ENDS: [usize; 14] = [0, 1, 2, 15, 21, 25, 35, 47, 56, 62, 63, 65, 73, 75];
+pub const PHRASE_ENDS: [usize; 15] = [0, 1, 2, 15, 21, 25, 35, 47, 56, 62, 63, 65, 73, 75, 82];
 
 pub const SPACE: usize = 0;
 
@@ -124,3 +124,5 @@ pub const COLON_SPACE: usize = 10;
 pub const LIMIT: usize = 11;
 
 pub const CLOSE: usize = 12;
+
+pub const DEPTH: usize = 13;

@@ -1,16 +1,18 @@
-// The program behind the script `teyk`: its first argument is a command, the others are files. It reads, calls the command's function, and
-// writes the bytes that this made; all that talks to the system stands here.
+// The program behind the script `teyk`: its first argument is a command, the others are files, and `--depth` may stand right after `list`. It
+// reads, calls the command's function, and writes the bytes that this made; all that talks to the system stands here.
 use commands::Said;
 use libc::STDERR_FILENO;
 use libc::STDOUT_FILENO;
+use run::Group;
 use text::Came;
 ghost use mathlib.Core.Path.{_≡_};
 ghost use Prim.Native.Nat.{_≤_};
 ghost use lib.ListN.{length};
 
-// The commands by number.
+// The commands by number; `list` with what its records hold: of nine numbers it tells depths. So `commands::list` has one caller, and its records
+// stand where those of `unpack` do: with two the stack would be too small.
 enum Command {
-    List,
+    List(Group),
     Pack,
     Unpack,
     Unknown,
@@ -135,7 +137,7 @@ fn say(
     err: &mut [u8],
 ) -> Said {
     match command {
-        Command::List => commands::list(part, headed, name, file, out, err),
+        Command::List(group) => commands::list(part, group, headed, name, file, out, err),
         Command::Pack => files::pack(name, file, out, err),
         Command::Unpack => files::unpack(part, headed, name, file, out, err),
         Command::Unknown => Said {
@@ -210,11 +212,11 @@ fn on_argument(command: Command, headed: bool, i: usize) -> bool {
     on_named(command, headed, &name[..n])
 }
 
-// A command on the files that the arguments from the third on name.
-fn on_all(command: Command, count: usize) {
-    let mut i: usize = 2;
+// A command on the files that the arguments from the first on name.
+fn on_all(command: Command, first: usize, count: usize) {
+    let mut i = first;
     while i < count {
-        if !on_argument(command, 3 < count, i) {
+        if !on_argument(command, 1 < count - first, i) {
             return;
         }
         i += 1;
@@ -235,9 +237,19 @@ fn is_word<'a>(name: &'a [u8], word: &'a [u8]) -> bool {
     true
 }
 
+// The option of `list` that may stand right after it.
+fn list_group() -> Group {
+    let mut word = io::buffer();
+    let n = os::arg(2, &mut word);
+    if is_word(&word[..n], b"--depth") {
+        return Group::Nine;
+    }
+    Group::Five
+}
+
 fn command_named(name: &[u8]) -> Command {
     if is_word(name, b"list") {
-        return Command::List;
+        return Command::List(list_group());
     }
     if is_word(name, b"pack") {
         return Command::Pack;
@@ -246,6 +258,17 @@ fn command_named(name: &[u8]) -> Command {
         return Command::Unpack;
     }
     Command::Unknown
+}
+
+// The first argument that names a file: the option stands before it.
+fn first_file(command: Command) -> usize {
+    match command {
+        Command::List(group) => match group {
+            Group::Five => 2,
+            Group::Nine => 3,
+        },
+        _ => 2,
+    }
 }
 
 // Whether an argument begins with `-` and is more than that: no command knows such a word.
@@ -266,8 +289,8 @@ fn has_option(i: usize) -> bool {
     false
 }
 
-fn has_options(count: usize) -> bool {
-    let mut i: usize = 2;
+fn has_options(first: usize, count: usize) -> bool {
+    let mut i = first;
     while i < count {
         if has_option(i) {
             return true;
@@ -278,14 +301,15 @@ fn has_options(count: usize) -> bool {
 }
 
 fn run_command(command: Command, count: usize) {
-    if has_options(count) {
+    let first = first_file(command);
+    if has_options(first, count) {
         return;
     }
-    if count < 3 {
+    if count <= first {
         on_named(command, false, b"-");
         return;
     }
-    on_all(command, count);
+    on_all(command, first, count);
 }
 
 fn main() {

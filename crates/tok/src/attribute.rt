@@ -182,6 +182,8 @@ fn attribute_token(s: &[u8], o: usize, p: usize) -> Call
         what: w,
         at: t.at as u64,
         advances: t.passed as u64,
+        gap_depth: 0,
+        code_depth: 0,
     }
 }
 

@@ -1,60 +1,80 @@
 // Gaps: whitespace; `//` up to but not including newline or end; nested `/* */`.
+use scan::Deep;
 use scan::Skip;
 use scan::Sought;
 use scan::Turn;
+use scan::Turned;
 use utf8::Sight;
 use utf8::signs;
-ghost use Prim.Native.Nat.{ℕ, _+_};
+ghost use Prim.Native.Nat.{_+_, _<_};
 ghost use mathlib.Core.Bool.{true};
 ghost use mathlib.Core.Path.{_≡_};
-ghost use lib.ListN.{drop};
+ghost use lib.ListN.{drop, getD, length};
+ghost use Rattle.utf8.specs.Chars.{'/};
+ghost use Rattle.scan.specs.Depth.{commentDepth, coverDepth, slashDepth};
 ghost use Rattle.scan.specs.Runs.{run};
 ghost use Rattle.scan.specs.Seek.{blockComment, skipMore};
 ghost use Rattle.scan.specs.Until.{left};
-ghost use Rattle.scan.specs.declared.Skip.the-variants.{Past};
-ghost use Rattle.scan.specs.Walk.{turnOf, walkFrom};
-ghost use Rattle.reading.specs.Gaps.{commentTurn, gapTurn, gapLast, gap};
+ghost use Rattle.scan.specs.Walk.{turnOf};
+ghost use Rattle.reading.specs.Gaps.{commentTurn, gapTurn, gap, gapDepth};
 ghost use Rattle.reading.specs.Steps.{gapStop};
 
 // A block comment that starts at o, from after its slash and star; the star is counted.
-fn block_turn(s: &[u8], at: usize, o: usize) -> Turn
-    ensures { λ r. ⌜ r ≡ turnOf 0 (skipMore 1 (blockComment o (left (now (s .entry)) at) at)) ⌝ }
+fn block_turn(s: &[u8], at: usize, o: usize) -> Turned
+    ensures { λ r. ⌜ (r .turn ≡ turnOf 0 (skipMore 1 (blockComment o (left (now (s .entry)) at) at))) × (r .depth ≡ commentDepth (left (now (s .entry)) at)) ⌝ }
 {
-    match scan::block_comment(s, at, o) {
-        Skip::Past(p, m) => Turn::Pass(p, 1 + m, 0),
-        Skip::Lost(r, p, m) => Turn::Fail(r, p, 1 + m),
+    let x = scan::block_comment(s, at, o);
+    let depth = x.depth;
+    let skip = x.skip;
+    match skip {
+        Skip::Past(p, m) => Turned {
+            turn: Turn::Pass(p, 1 + m, 0),
+            depth,
+        },
+        Skip::Lost(r, p, m) => Turned {
+            turn: Turn::Fail(r, p, 1 + m),
+            depth,
+        },
     }
 }
 
+// What no block comment does.
+fn flat(turn: Turn) -> Turned
+    ensures { λ r. ⌜ (r .turn ≡ turn) × (r .depth ≡ 0) ⌝ }
+{
+    Turned { turn, depth: 0 }
+}
+
 // After a slash at o.
-fn comment_turn(s: &[u8], at: usize, o: usize) -> Turn
-    ensures { λ r. ⌜ r ≡ commentTurn o (left (now (s .entry)) at) at ⌝ }
+fn comment_turn(s: &[u8], at: usize, o: usize) -> Turned
+    ensures { λ r. ⌜ (r .turn ≡ commentTurn o (left (now (s .entry)) at) at) × (r .depth ≡ slashDepth (left (now (s .entry)) at)) ⌝ }
 {
     match utf8::char_at(s, at) {
         Sight::Char { code, width } => {
             if code == signs::SLASH {
-                return scan::to_turn(0, scan::up_to(scan::take_until(s, at, Sought::Newline)));
+                let line = scan::up_to(scan::take_until(s, at, Sought::Newline));
+                return flat(scan::to_turn(0, line));
             }
             if code == signs::STAR {
                 return block_turn(s, at + width, o);
             }
-            Turn::Stop
+            flat(Turn::Stop)
         }
-        Sight::End => Turn::Stop,
+        Sight::End => flat(Turn::Stop),
     }
 }
 
 // The character c at a place, with the text going on at next.
-pub fn gap_turn(s: &[u8], at: usize, next: usize, c: u32) -> Turn
-    ensures { λ r. ⌜ r ≡ gapTurn 0 c (left (now (s .entry)) next) at next ⌝ }
+pub fn gap_turn(s: &[u8], at: usize, next: usize, c: u32) -> Turned
+    ensures { λ r. ⌜ (r .turn ≡ gapTurn 0 c (left (now (s .entry)) next) at next) × (r .depth ≡ coverDepth c (left (now (s .entry)) next)) ⌝ }
 {
     if c == signs::SLASH {
         return comment_turn(s, next, at);
     }
     if unicode::is_whitespace(c) {
-        return Turn::Pass(next, 0, 0);
+        return flat(Turn::Pass(next, 0, 0));
     }
-    Turn::Stop
+    flat(Turn::Stop)
 }
 
 fn wide(x: u8) -> u32
@@ -81,9 +101,9 @@ pub fn gap_run(s: &[u8], from: usize) -> usize
     at
 }
 
-// Whether a byte below 128 stands at a place that neither is white space nor starts a comment: most gaps end at one.
+// Whether a byte below 128 stands at a place that starts no comment: after a run of white space most gaps end at one, which is not looked at again.
 fn is_over(s: &[u8], at: usize) -> bool
-    ensures { λ r. ⌜ (r ≡ true → ((n : ℕ) → walkFrom gapTurn gapLast 0 (left (now (s .entry)) at) 0 at n ≡ Past at n)) ⌝ }
+    ensures { λ r. ⌜ (r ≡ true → (at < length (now (s .entry))) × (getD (now (s .entry)) at 0 < 128) × (getD (now (s .entry)) at 0 ≡ '/ → ⊥)) ⌝ }
 {
     if s.len() <= at {
         return false;
@@ -92,49 +112,64 @@ fn is_over(s: &[u8], at: usize) -> bool
     if 128 <= x {
         return false;
     }
-    if x == signs::SLASH {
-        return false;
-    }
-    !unicode::is_whitespace(x)
+    x != signs::SLASH
 }
 
 // A gap of any kind.
-fn gap_far(s: &[u8], from: usize) -> Skip
-    ensures { λ r. ⌜ r ≡ gap (left (now (s .entry)) from) from ⌝ }
+fn gap_far(s: &[u8], from: usize) -> Deep
+    ensures { λ r. ⌜ (r .skip ≡ gap (left (now (s .entry)) from) from) × (r .depth ≡ gapDepth (left (now (s .entry)) from) from) ⌝ }
 {
     let mut at = from;
     let mut n: usize = 0;
+    let mut deep: usize = 0;
     loop {
         let to = gap_run(s, at);
         n += to - at;
         at = to;
         match utf8::char_at(s, at) {
-            Sight::Char { code, width } => match gap_turn(s, at, at + width, code) {
-                Turn::Stop => {
-                    return Skip::Past(at, n);
+            Sight::Char { code, width } => {
+                let x = gap_turn(s, at, at + width, code);
+                let what = x.turn;
+                match what {
+                    Turn::Stop => {
+                        return Deep {
+                            skip: Skip::Past(at, n),
+                            depth: deep,
+                        };
+                    }
+                    Turn::Fail(r, p, m) => {
+                        return Deep {
+                            skip: Skip::Lost(r, p, n + 1 + m),
+                            depth: deep,
+                        };
+                    }
+                    Turn::Pass(p, m, _) => {
+                        at = p;
+                        n = n + 1 + m;
+                        deep = scan::deeper(deep, x.depth);
+                    }
                 }
-                Turn::Fail(r, p, m) => {
-                    return Skip::Lost(r, p, n + 1 + m);
-                }
-                Turn::Pass(p, m, _) => {
-                    at = p;
-                    n = n + 1 + m;
-                }
-            },
+            }
             Sight::End => {
-                return Skip::Past(at, n);
+                return Deep {
+                    skip: Skip::Past(at, n),
+                    depth: deep,
+                };
             }
         }
     }
 }
 
 // What stands before the next token: white space below 128 and no more, most often.
-pub fn gap(s: &[u8], from: usize) -> Skip
-    ensures { λ r. ⌜ r ≡ gap (left (now (s .entry)) from) from ⌝ }
+pub fn gap(s: &[u8], from: usize) -> Deep
+    ensures { λ r. ⌜ (r .skip ≡ gap (left (now (s .entry)) from) from) × (r .depth ≡ gapDepth (left (now (s .entry)) from) from) ⌝ }
 {
     let to = gap_run(s, from);
     if is_over(s, to) {
-        return Skip::Past(to, to - from);
+        return Deep {
+            skip: Skip::Past(to, to - from),
+            depth: 0,
+        };
     }
     gap_far(s, from)
 }

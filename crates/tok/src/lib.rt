@@ -33,5 +33,7 @@ fn more(n: usize, x: Call) -> Call
         what: w,
         at: x.at,
         advances: (n as u64) + x.advances,
+        gap_depth: x.gap_depth,
+        code_depth: x.code_depth,
     }
 }

@@ -2,6 +2,8 @@
 use reading::Call;
 use reading::What;
 use record::Kind;
+use record::Token;
+use record::Told;
 use scan::Skip;
 use utf8::Sight;
 use utf8::signs;
@@ -10,7 +12,7 @@ ghost use mathlib.Core.List.{_∷_};
 ghost use mathlib.Core.Path.{_≡_};
 ghost use Rattle.unicode.specs.Identifier.{isIdentifierStart};
 ghost use Rattle.scan.specs.Until.{left};
-ghost use Rattle.reading.specs.Answers.{more};
+ghost use Rattle.reading.specs.Answers.{more, told, toldToken, toldWhat};
 ghost use Rattle.reading.specs.Next.{starts, token, tokenOrEnd, next};
 ghost use Rattle.reading.specs.Symbols.{stray};
 ghost use Rattle.reading.specs.Words.{identifierish};
@@ -90,7 +92,50 @@ pub fn token_or_end(s: &[u8], o: usize) -> Call
             what: What::End,
             at: o as u64,
             advances: 0,
+            gap_depth: 0,
+            code_depth: 0,
         },
+    }
+}
+
+// A token's record with both depths.
+fn told_token(g: u64, d: u64, t: Token) -> Token
+    ensures { λ r. ⌜ r ≡ toldToken g d t ⌝ }
+{
+    let kind = t.kind;
+    Token {
+        kind,
+        start: t.start,
+        end: t.end,
+        payload_start: t.payload_start,
+        payload_end: t.payload_end,
+        gap_depth: Told::Is(g),
+        code_depth: Told::Is(d),
+    }
+}
+
+fn told_what(g: u64, d: u64, w: What) -> What
+    ensures { λ r. ⌜ r ≡ toldWhat g d w ⌝ }
+{
+    match w {
+        What::Got(t) => What::Got(told_token(g, d, t)),
+        What::Error(r) => What::Error(r),
+        What::End => What::End,
+    }
+}
+
+// The same call after a gap whose comments go g deep.
+fn told(g: usize, x: Call) -> Call
+    ensures { λ r. ⌜ r ≡ told g x ⌝ }
+{
+    let d = x.code_depth;
+    let w = x.what;
+    Call {
+        what: told_what(g as u64, d, w),
+        at: x.at,
+        advances: x.advances,
+        gap_depth: g as u64,
+        code_depth: d,
     }
 }
 
@@ -98,12 +143,10 @@ pub fn token_or_end(s: &[u8], o: usize) -> Call
 pub fn next_unshifted(s: &[u8], at: usize) -> Call
     ensures { λ r. ⌜ r ≡ next (left (now (s .entry)) at) at ⌝ }
 {
-    match crate::gaps::gap(s, at) {
-        Skip::Past(p, m) => crate::more(m, token_or_end(s, p)),
-        Skip::Lost(r, p, m) => Call {
-            what: What::Error(r),
-            at: p as u64,
-            advances: m as u64,
-        },
+    let x = crate::gaps::gap(s, at);
+    let skip = x.skip;
+    match skip {
+        Skip::Past(p, m) => told(x.depth, crate::more(m, token_or_end(s, p))),
+        Skip::Lost(r, p, m) => reading::fail(r, p, m),
     }
 }

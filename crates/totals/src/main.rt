@@ -1,9 +1,9 @@
-// What each of sixteen texts adds to a sheet, and their sum; and numbers that are no sheet. The file `stdout` holds what 02, E2 says of them.
+// What each of seventeen texts adds to a sheet, and what they come to; and numbers that are no sheet. The file `stdout` holds what 02, E2 and E4 say of them.
 mod refusals;
 mod say;
 mod small;
 
 fn main() {
-    small::sixteen();
+    small::seventeen();
     refusals::refusals();
 }

@@ -1,4 +1,4 @@
-// Sixteen texts: what each adds to an empty sheet, by index, and then their sum.
+// Seventeen texts: what each adds to an empty sheet, by index, and then their sum; of the depths (61) the greatest.
 use crate::say::numbers;
 use crate::say::say;
 use crate::say::taken;
@@ -28,6 +28,7 @@ fn plain(sum: &mut [u64]) {
     adds(b"pub A: B = { <n:C> => n };", sum);
     adds(b" // a \xc3\xa9", sum);
     adds(b"a/* b /* c */ */ \"d\"", sum);
+    adds(b"use a/* b /* c /* d */ */ */;", sum);
 }
 
 // What a hash starts: attributes, with and without a character after them, and attempts that fail.
@@ -49,7 +50,7 @@ fn errors(sum: &mut [u64]) {
     adds(b"a /* b", sum);
 }
 
-pub(crate) fn sixteen() {
+pub(crate) fn seventeen() {
     let mut sum = empty_row();
     plain(&mut sum);
     sharp(&mut sum);

@@ -11,8 +11,8 @@ use Rattle.record.specs.declared.Kind.{Kind}
 use Rattle.scan.specs.IfNext.{ifNext}
 use Rattle.scan.specs.declared.Skip.{Skip}
 use Rattle.scan.specs.declared.Skip.the-variants.{Lost, Past}
-use Rattle.reading.specs.Answers.{deliver, more, plain, refuse}
-use Rattle.reading.specs.Gaps.{gap}
+use Rattle.reading.specs.Answers.{deliver, more, plain, refuse, told, toldWhat}
+use Rattle.reading.specs.Gaps.{gap, gapDepth}
 use Rattle.reading.specs.Next.{next, nextBy, starts, token, tokenOrEnd}
 use Rattle.reading.specs.Symbols.{arrowLook, bang, colon, dot, equals, half, look, minus, rightArrow, single, singles, stray, tilde}
 use Rattle.reading.specs.declared.Call.{Call}
@@ -122,10 +122,19 @@ unfolding rust.tokenOrEnd tokenOrEnd
 or-end-mapped [] o = record { is = refl }
 or-end-mapped (c ∷ cs) o = token-mapped c cs o (o + widthOf c)
 
+told-what : (g d : ℕ) (w : What) → toldWhat g d (rustWhat w) ≡ rustWhat (toldWhat g d w)
+told-what g d (Got t) = refl
+told-what g d (Error r) = refl
+told-what g d End = refl
+
+mapped-told : (g : ℕ) (x y : Call) → Mapped x y → Mapped (told g x) (told g y)
+unfolding told
+mapped-told g x y h = record { is = rw (h .is, told-what g (y .«code_depth») (y .what)) }
+
 pub next-mapped : (cs : List ℕ) (at : ℕ) → Mapped (rust.next cs at) (next cs at)
 unfolding rust.next next
 next-mapped cs at = go (gap cs at) (gap-coarse cs at)
   where
-    go : (x : Skip) → Loses Coarse x → Mapped (rust.nextBy cs x) (nextBy cs x)
-    go (Past p m) h = mapped-more m _ _ (or-end-mapped (drop m cs) p)
+    go : (x : Skip) → Loses Coarse x → Mapped (rust.nextBy cs x (gapDepth cs at)) (nextBy cs x (gapDepth cs at))
+    go (Past p m) h = mapped-told _ _ _ (mapped-more m _ _ (or-end-mapped (drop m cs) p))
     go (Lost r p m) h = record { is = rw (h .is) }

@@ -23,9 +23,9 @@ use Rattle.scan.specs.Far.{Far, far-left}
 use Rattle.scan.specs.Until.{left}
 use Rattle.scan.specs.declared.Skip.{Skip}
 use Rattle.scan.specs.declared.Skip.the-variants.{Lost, Past}
-use Rattle.reading.specs.Answers.{more}
-use Rattle.reading.specs.Gaps.{gap}
-use Rattle.reading.specs.Next.{next}
+use Rattle.reading.specs.Answers.{more, told as deep, toldWhat}
+use Rattle.reading.specs.Gaps.{gap, gapDepth}
+use Rattle.reading.specs.Next.{next, tokenOrEnd}
 use Rattle.reading.specs.Passes.{gap-sound}
 use Rattle.reading.specs.Run.{doneBy, shiftWhat}
 use Rattle.reading.specs.Steps.{next-gap, next-lost}
@@ -107,14 +107,21 @@ not-both (c ∷ cs) h =
       not-among c '= longer refl n,
     )
 
+-- depths tell nothing of it
+deep-told : (p g d : ℕ) (w : What) → told p (toldWhat g d w) ≡ told p w
+deep-told p g d (Got t) = refl
+deep-told p g d (Error r) = refl
+deep-told p g d End = refl
+
 -- ---- OF A CALL. Its gap is passed, and a token is to start at p
 module _ (s : List ℕ) (at p m : ℕ) (e : gap (left s at) at ≡ Past p m) where
   there : told p (next (left s at) at .what) ≡ unknownOf (left s p)
-  unfolding more
+  unfolding more deep
   there =
       let f : Far (left s at) at m p = (rw e at (gap-sound (left s at) at)) .is in
       let o : over (left s p) ≡ true = rw (far-left s at m p f) at (gap-over (left s at) at p m e) in
-      rw (next-gap s at p m e) (first-told (left s p) p o)
+      let y = tokenOrEnd (left s p) p in
+      rw (next-gap s at p m e) (deep-told p (gapDepth (left s at) at) (y .«code_depth») (y .what) ∙ first-told (left s p) p o)
 
   pub half-there : isHalf (left s p) ≡ true → next (left s at) at .what ≡ Error (refusal HalfSymbol p)
   unfolding unknownOf

@@ -9,12 +9,13 @@ use Rattle.unicode.specs.Tables.{continueRanges, startRanges}
 use Rattle.record.specs.Checks.{checks}
 use Rattle.record.specs.Numbers.{codeNumber}
 use Rattle.record.specs.Rust.{rustNumber}
+use Rattle.scan.specs.Depth.{deepest, depthFrom, slashDepth}
 use Rattle.scan.specs.Far.{after}
 use Rattle.scan.specs.IfNext.{ifNext}
 use Rattle.scan.specs.Until.{until}
 use Rattle.scan.specs.Walk.{walkFrom}
 use Rattle.code.specs.Code.{bodySkip, closes, codeTurn, escSkip, oneSkip, opens, quoteEnd, quoteSkip, rSkip, slashSkip}
-use Rattle.reading.specs.Answers.{deliver, more, plain, refuse, startState}
+use Rattle.reading.specs.Answers.{deliver, more, plain, refuse, startState, told}
 use Rattle.reading.specs.Attribute.{attempt, attemptBody, attemptBracket, attributeToken, attributeTurn, dropped, hash}
 use Rattle.reading.specs.Gaps.{commentTurn, gap, gapTurn}
 use Rattle.reading.specs.Next.{next, starts, token, tokenOrEnd}
@@ -79,7 +80,7 @@ answered [] = []
 answered (r ∷ rs) = numbersOf (ranOf (r .0) 0 99 9 startState) ∷ answered rs
 
 pub which-is-which : answered rows ≡ expected rows
-unfolding answered expected rows ranWith wholeRunWith checks reach runWith runFromWith stepWith next gap gapTurn commentTurn tokenOrEnd token starts single singles half stray bang colon dot look tilde minus arrowLook arrowCode rightArrow equals attributeTurn attemptBody attemptBracket attempt dropped attributeToken hash regexToken hashed regexLiteral rWord spells keywords useToken idToken keywordToken wordToken identifierish escape stringLiteral charLiteral lifetimeish slashSkip quoteEnd oneSkip escSkip quoteSkip bodySkip rSkip opens closes codeTurn walkFrom deliver plain refuse more ifNext until after chars charsFrom sight lead low high widthOf startRanges continueRanges holds inRanges
+unfolding answered expected rows ranWith wholeRunWith checks reach runWith runFromWith stepWith next gap gapTurn commentTurn tokenOrEnd token starts single singles half stray bang colon dot look tilde minus arrowLook arrowCode rightArrow equals attributeTurn attemptBody attemptBracket attempt dropped attributeToken hash regexToken hashed regexLiteral rWord spells keywords useToken idToken keywordToken wordToken identifierish escape stringLiteral charLiteral lifetimeish slashSkip quoteEnd oneSkip escSkip quoteSkip bodySkip rSkip opens closes codeTurn walkFrom deliver plain refuse more told depthFrom slashDepth deepest ifNext until after chars charsFrom sight lead low high widthOf startRanges continueRanges holds inRanges
 which-is-which = refl
 
 -- the old reading
@@ -96,5 +97,5 @@ rustAnswered [] = []
 rustAnswered (r ∷ rs) = numbersOf (ranWith rust.next (r .0) 0 99 9 startState) ∷ rustAnswered rs
 
 pub as-it-was : rustAnswered rows ≡ rustExpected rows
-unfolding rustAnswered rustExpected rows ranWith wholeRunWith checks reach runWith runFromWith stepWith rust.next gap gapTurn commentTurn rust.tokenOrEnd rust.token rust.starts single singles rust.half rust.stray bang colon rust.dot rust.look rust.tilde rust.minus rust.arrowLook arrowCode rust.rightArrow rust.equals attributeTurn attemptBody attemptBracket attempt dropped attributeToken hash regexToken hashed regexLiteral rWord spells keywords useToken idToken keywordToken wordToken identifierish escape stringLiteral charLiteral lifetimeish slashSkip quoteEnd oneSkip escSkip quoteSkip bodySkip rSkip opens closes codeTurn walkFrom deliver plain refuse more ifNext until after chars charsFrom sight lead low high widthOf startRanges continueRanges holds inRanges
+unfolding rustAnswered rustExpected rows ranWith wholeRunWith checks reach runWith runFromWith stepWith rust.next gap gapTurn commentTurn rust.tokenOrEnd rust.token rust.starts single singles rust.half rust.stray bang colon rust.dot rust.look rust.tilde rust.minus rust.arrowLook arrowCode rust.rightArrow rust.equals attributeTurn attemptBody attemptBracket attempt dropped attributeToken hash regexToken hashed regexLiteral rWord spells keywords useToken idToken keywordToken wordToken identifierish escape stringLiteral charLiteral lifetimeish slashSkip quoteEnd oneSkip escSkip quoteSkip bodySkip rSkip opens closes codeTurn walkFrom deliver plain refuse more told depthFrom slashDepth deepest ifNext until after chars charsFrom sight lead low high widthOf startRanges continueRanges holds inRanges
 as-it-was = refl

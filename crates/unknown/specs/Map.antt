@@ -21,7 +21,7 @@ rustWhat (Error r) = Error (rustRefusal r)
 rustWhat End = End
 
 abbrev pub rustCall : Call → Call
-rustCall x = record { what = rustWhat (x .what); at = x .at; advances = x .advances }
+rustCall x = record { what = rustWhat (x .what); at = x .at; advances = x .advances; «gap_depth» = x .«gap_depth»; «code_depth» = x .«code_depth» }
 
 -- a tokenizer keeps the error that it answered
 abbrev pub rustOutcome : Outcome → Outcome
@@ -33,10 +33,10 @@ abbrev pub rustTokenizer : Tokenizer → Tokenizer
 rustTokenizer t = record { at = t .at; count = t .count; done = rustOutcome (t .done) }
 
 abbrev pub rustStepped : Stepped → Stepped
-rustStepped x = record { what = rustWhat (x .what); next = rustTokenizer (x .next) }
+rustStepped x = record { what = rustWhat (x .what); next = rustTokenizer (x .next); «gap_depth» = x .«gap_depth» }
 
 abbrev pub rustRun : Run → Run
-rustRun r = record { tokens = r .tokens; how = rustOutcome (r .how); state = rustTokenizer (r .state) }
+rustRun r = record { tokens = r .tokens; how = rustOutcome (r .how); state = rustTokenizer (r .state); last = r .last }
 
 abbrev pub rustRan : Ran → Ran
-rustRan r = record { stored = r .stored; how = rustOutcome (r .how); advances = r .advances; state = rustTokenizer (r .state) }
+rustRan r = record { stored = r .stored; how = rustOutcome (r .how); advances = r .advances; state = rustTokenizer (r .state); «last_depth» = r .«last_depth» }

@@ -44,9 +44,9 @@ step-by shift limit t x = go (ltb limit (t .count + x .advances))
     after w = record { at = x .at; count = t .count + x .advances; done = doneBy w }
 
     go : (b : Bool)
-        → cond b (record { what = Error (refusal WorkLimit (t .at + shift)); next = rustTokenizer t })
-        (record { what = shiftWhat shift (rustWhat (x .what)); next = after (shiftWhat shift (rustWhat (x .what))) })
-        ≡ rustStepped (cond b (record { what = Error (refusal WorkLimit (t .at + shift)); next = t }) (record { what = shiftWhat shift (x .what); next = after (shiftWhat shift (x .what)) }))
+        → cond b (record { what = Error (refusal WorkLimit (t .at + shift)); next = rustTokenizer t; «gap_depth» = 0 })
+        (record { what = shiftWhat shift (rustWhat (x .what)); next = after (shiftWhat shift (rustWhat (x .what))); «gap_depth» = x .«gap_depth» })
+        ≡ rustStepped (cond b (record { what = Error (refusal WorkLimit (t .at + shift)); next = t; «gap_depth» = 0 }) (record { what = shiftWhat shift (x .what); next = after (shiftWhat shift (x .what)); «gap_depth» = x .«gap_depth» }))
     go true = refl
     go false = rw (shifted shift (x .what), done (shiftWhat shift (x .what)))
 
@@ -65,21 +65,21 @@ module _ (old new : List ℕ → ℕ → Call) (mapped : (cs : List ℕ) (at : �
   from-mapped : (k room : ℕ) (t : Tokenizer) → runFromWith old s shift limit k room (rustTokenizer t) ≡ rustRun (runFromWith new s shift limit k room t)
   unfolding runFromWith
   from-mapped zero room t = refl
-  from-mapped (suc k) room t = rw (step-mapped t) (go (from-mapped k) (stepWith new s shift limit t .what) (stepWith new s shift limit t .next))
+  from-mapped (suc k) room t = rw (step-mapped t) (go (from-mapped k) (stepWith new s shift limit t .what) (stepWith new s shift limit t .next) (stepWith new s shift limit t .«gap_depth»))
     where
       Again : Type 0
       Again = (room : ℕ) (u : Tokenizer) → runFromWith old s shift limit k room (rustTokenizer u) ≡ rustRun (runFromWith new s shift limit k room u)
 
-      some : Again → (y : Token) (u : Tokenizer) (b : Bool)
-          → put (runFromWith old s shift limit k) room (rustTokenizer t) (rustTokenizer u) b y ≡ rustRun (put (runFromWith new s shift limit k) room t u b y)
-      some ih y u true = ap (also y) (ih (room - 1) u)
-      some ih y u false = refl
+      some : Again → (y : Token) (u : Tokenizer) (g : ℕ) (b : Bool)
+          → put (runFromWith old s shift limit k) room (rustTokenizer t) (rustTokenizer u) g b y ≡ rustRun (put (runFromWith new s shift limit k) room t u g b y)
+      some ih y u g true = ap (also y) (ih (room - 1) u)
+      some ih y u g false = refl
 
-      go : Again → (w : What) (u : Tokenizer)
-          → turn (runFromWith old s shift limit k) room (rustTokenizer t) (rustTokenizer u) (rustWhat w) ≡ rustRun (turn (runFromWith new s shift limit k) room t u w)
-      go ih (Got y) u = some ih y u (ltb 0 room)
-      go ih (Error r) u = refl
-      go ih End u = refl
+      go : Again → (w : What) (u : Tokenizer) (g : ℕ)
+          → turn (runFromWith old s shift limit k) room (rustTokenizer t) (rustTokenizer u) g (rustWhat w) ≡ rustRun (turn (runFromWith new s shift limit k) room t u g w)
+      go ih (Got y) u g = some ih y u g (ltb 0 room)
+      go ih (Error r) u g = refl
+      go ih End u g = refl
 
   run-mapped : (room : ℕ) (t : Tokenizer) → runWith old s shift limit room (rustTokenizer t) ≡ rustRun (runWith new s shift limit room t)
   unfolding runWith
@@ -96,8 +96,8 @@ module _ (old new : List ℕ → ℕ → Call) (mapped : (cs : List ℕ) (at : �
   unfolding nextTokenWith
   single-mapped t = go (checks s shift) (checked .is)
     where
-      by : (b : Bool) → cond b (stepWith old s shift limit (rustTokenizer t)) (record { what = Error (refusal BadRecord 0); next = rustTokenizer t })
-          ≡ rustStepped (cond b (stepWith new s shift limit t) (record { what = Error (refusal BadRecord 0); next = t }))
+      by : (b : Bool) → cond b (stepWith old s shift limit (rustTokenizer t)) (record { what = Error (refusal BadRecord 0); next = rustTokenizer t; «gap_depth» = 0 })
+          ≡ rustStepped (cond b (stepWith new s shift limit t) (record { what = Error (refusal BadRecord 0); next = t; «gap_depth» = 0 }))
       by true = step-mapped t
       by false = refl
 

@@ -13,15 +13,15 @@ use Rattle.record.specs.declared.Kind.the-variants.{DotDot, Equals, EqualsEqual
 use Rattle.scan.specs.IfNext.{ifNext}
 use Rattle.scan.specs.declared.Skip.{Skip}
 use Rattle.scan.specs.declared.Skip.the-variants.{Lost, Past}
-use Rattle.reading.specs.Answers.{more, plain, refuse}
+use Rattle.reading.specs.Answers.{fail, more, plain, refuse, told}
 use Rattle.reading.specs.Attribute.{hash}
-use Rattle.reading.specs.Gaps.{gap}
+use Rattle.reading.specs.Gaps.{gap, gapDepth}
 use Rattle.reading.specs.Quotes.{escape, lifetimeish, stringLiteral}
 use Rattle.reading.specs.Regex.{rWord}
 use Rattle.reading.specs.Symbols.{arrowCode, bang, colon, single, singles}
 use Rattle.reading.specs.Words.{identifierish}
 use Rattle.reading.specs.declared.Call.{Call}
-use Rattle.reading.specs.declared.What.the-variants.{End, Error}
+use Rattle.reading.specs.declared.What.the-variants.{End}
 
 -- 01: "Lone `.`, `~`, `-`, `/`, `@` are `UnrecognizedToken` at that character."
 -- half a symbol, and a character that starts nothing: both are refused at their first character
@@ -79,12 +79,13 @@ unfoldable pub token : ℕ → List ℕ → ℕ → ℕ → Call
 token c cs o next = cond (eqb c '#) (more 1 (hash o cs next)) (single singles c o next (starts c cs o next))
 
 unfoldable pub tokenOrEnd : List ℕ → ℕ → Call
-tokenOrEnd [] o = record { what = End; at = o; advances = 0 }
+tokenOrEnd [] o = record { what = End; at = o; advances = 0; «gap_depth» = 0; «code_depth» = 0 }
 tokenOrEnd (c ∷ cs) o = token c cs o (o + widthOf c)
 
-abbrev pub nextBy : List ℕ → Skip → Call
-nextBy cs (Past p m) = more m (tokenOrEnd (drop m cs) p)
-nextBy cs (Lost r p m) = record { what = Error r; at = p; advances = m }
+-- (the depths are 02's, E4: both tell the same)
+abbrev pub nextBy : List ℕ → Skip → ℕ → Call
+nextBy cs (Past p m) d = told d (more m (tokenOrEnd (drop m cs) p))
+nextBy cs (Lost r p m) d = fail r p m
 
 unfoldable pub next : List ℕ → ℕ → Call
-next cs at = nextBy cs (gap cs at)
+next cs at = nextBy cs (gap cs at) (gapDepth cs at)

@@ -2,8 +2,8 @@
 pub mod quotes;
 
 use reading::Call;
-use reading::What;
 use record::Kind;
+use scan::Deep;
 use scan::Skip;
 use utf8::signs;
 ghost use Prim.Native.Nat.{_+_, _<_, _≤_};
@@ -74,16 +74,24 @@ fn id_token(s: &[u8], o: usize, p: usize) -> Call
 }
 
 // A token that takes code from a place on: up to where the code ends.
-pub fn code_token(kind: Kind, o: usize, from: usize, x: Skip) -> Call
-    ensures { λ r. ⌜ r ≡ codeToken kind o from x ⌝ }
+pub fn code_token(kind: Kind, o: usize, from: usize, x: Deep) -> Call
+    ensures { λ r. ⌜ r ≡ codeToken kind o from (x .skip) (x .depth) ⌝ }
 {
-    match x {
-        Skip::Past(p, m) => reading::deliver(kind, o, from, p, p, m),
-        Skip::Lost(r, p, m) => Call {
-            what: What::Error(r),
-            at: p as u64,
-            advances: m as u64,
-        },
+    let d = x.depth;
+    let skip = x.skip;
+    match skip {
+        Skip::Past(p, m) => {
+            let y = reading::deliver(kind, o, from, p, p, m);
+            let w = y.what;
+            Call {
+                what: w,
+                at: y.at,
+                advances: y.advances,
+                gap_depth: y.gap_depth,
+                code_depth: d as u64,
+            }
+        }
+        Skip::Lost(r, p, m) => reading::fail(r, p, m),
     }
 }
 

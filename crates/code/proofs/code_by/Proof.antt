@@ -8,36 +8,35 @@ use lib.ListN.{length, drop}
 use Rattle.utf8.specs.Utf8.{chars}
 use Rattle.utf8.specs.Laws.{Seen, seen, ended}
 use Rattle.utf8.specs.Picks.{picks}
+use Rattle.scan.specs.Deepens.{depth-end, depth-fail, depth-pass, depth-stop}
+use Rattle.scan.specs.Depth.{deeper, depthFrom}
 use Rattle.scan.specs.Far.{Lands, lands}
 use Rattle.scan.specs.Turns.{walk-stop, walk-fail, walk-pass, walk-end}
 use Rattle.scan.specs.Walk.{walkFrom}
-use Rattle.code.specs.Code.{codeTurn, codeLast, codeEnd}
+use Rattle.code.specs.Code.{codeDepth, codeEnd, codeLast, codeTurn}
 use Rattle.code.specs.Laws.{code-pass, code-fail}
-use Rattle.code.specs.Stops.{stops-length, walk-run}
+use Rattle.code.specs.Stops.{depth-run, stops-length, walk-run}
 use Rattle.code.proofs.code_by.Statement.{statement}
 use Rattle.code.proofs.code_by.Tie as tie
-use Rattle.code.proofs.code_by.Reads as reads
-use Rattle.code.proofs.code_by.Lts as lts
-use Rattle.code.proofs.code_run.Reads as code-run-reads
-use Rattle.code.proofs.code_turn.Reads as code-turn-reads
-use Rattle.code.proofs.lost.Reads as lost-reads
-use Rattle.utf8.proofs.char_at.Reads as char-at-reads
 
 abbrev Inv-loop : tie.InvT-loop
-Inv-loop stops s at start p₀ n₀ b₀ p n b =
+Inv-loop stops s at start p₀ n₀ b₀ deep₀ p n b deep =
     (n + at ≤ p) × (b ≤ n) × (walkFrom codeTurn (codeLast start) 0 (chars (drop p s)) b p n ≡ codeEnd start (chars (drop at s)) at)
+    × (depthFrom codeTurn 0 (chars (drop p s)) b p deep ≡ codeDepth (chars (drop at s)) at)
 
 abbrev μ-loop : tie.MeasureT-loop
-μ-loop stops s at start p₀ n₀ b₀ p n b = length s - p
+μ-loop stops s at start p₀ n₀ b₀ deep₀ p n b deep = length s - p
 
 -- after the run of a turn
 ran : (c : tie.After-code-run Inv-loop μ-loop)
     → (c .before .loop .p ≤ c .code-run .result)
     × (walkFrom codeTurn (codeLast (c .before .before .before .before .args .start)) 0 (chars (drop (c .code-run .result) (c .before .before .before .before .args .s .now))) (c .before .loop .b) (c .code-run .result) (c .before .loop .n + (c .code-run .result - c .before .loop .p))
     ≡ codeEnd (c .before .before .before .before .args .start) (chars (drop (c .before .before .before .before .args .at) (c .before .before .before .before .args .s .now))) (c .before .before .before .before .args .at))
+    × (depthFrom codeTurn 0 (chars (drop (c .code-run .result) (c .before .before .before .before .args .s .now))) (c .before .loop .b) (c .code-run .result) (c .before .loop .deep)
+    ≡ codeDepth (chars (drop (c .before .before .before .before .args .at) (c .before .before .before .before .args .s .now))) (c .before .before .before .before .args .at))
 ran c =
     let e = rw (c .before .before .before .before .pre) at (c .code-run .ensures) in
-    (omega arith, walk-run (codeLast (c .before .before .before .before .args .start)) (c .before .before .before .before .args .s .now) (c .before .loop .b) (c .before .loop .p) (c .code-run .result) (c .before .loop .n) e ∙ c .before .loop .inv .2)
+    (omega arith, walk-run (codeLast (c .before .before .before .before .args .start)) (c .before .before .before .before .args .s .now) (c .before .loop .b) (c .before .loop .p) (c .code-run .result) (c .before .loop .n) e ∙ c .before .loop .inv .2, depth-run (c .before .before .before .before .args .s .now) (c .before .loop .b) (c .before .loop .deep) (c .before .loop .p) (c .code-run .result) e ∙ c .before .loop .inv .3)
 
 -- a turn's slice, place, character and width
 abbrev S : tie.After-known-told Inv-loop μ-loop → List ℕ
@@ -57,17 +56,17 @@ here c = seen _ _ _ _ (sym (c .before .before .before .char-at .ensures) ∙ c .
 
 -- where a turn that passes leads
 far : (c : tie.After-known-told3 Inv-loop μ-loop)
-    → Lands (S (c .before .before .before .before)) (P (c .before .before .before .before) + W (c .before .before .before .before)) (c .before .q .given .0 .1 .0) (c .before .q .given .0 .0) × (c .before .q .given .0 .1 .1 .0 ≤ c .before .before .before .before .before .before .before .before .before .loop .b + 1)
+    → Lands (S (c .before .before .before .before)) (P (c .before .before .before .before) + W (c .before .before .before .before)) (c .before .what2 .given .0 .1 .0) (c .before .what2 .given .0 .0) × (c .before .what2 .given .0 .1 .1 .0 ≤ c .before .before .before .before .before .before .before .before .before .loop .b + 1)
 far c =
-    let g = code-pass _ _ _ _ _ _ _ _ (sym (c .before .before .before .code-turn .ensures) ∙ c .before .q .given .1) in
+    let g = code-pass _ _ _ _ _ _ _ _ (sym (c .before .before .before .turn .ensures .0) ∙ c .before .what2 .given .1) in
     (lands _ _ _ _ (g .0), g .1)
 
 -- where a turn that fails leads
-fails : (c : tie.After-known-told2 Inv-loop μ-loop) → Lands (S (c .before .before .before .before)) (P (c .before .before .before .before) + W (c .before .before .before .before)) (c .before .r .given .0 .1 .1 .0) (c .before .r .given .0 .1 .0)
-fails c = lands _ _ _ _ (code-fail _ _ _ _ _ _ _ _ (sym (c .before .before .before .code-turn .ensures) ∙ c .before .r .given .1))
+fails : (c : tie.After-known-told2 Inv-loop μ-loop) → Lands (S (c .before .before .before .before)) (P (c .before .before .before .before) + W (c .before .before .before .before)) (c .before .what .given .0 .1 .1 .0) (c .before .what .given .0 .1 .0)
+fails c = lands _ _ _ _ (code-fail _ _ _ _ _ _ _ _ (sym (c .before .before .before .turn .ensures .0) ∙ c .before .what .given .1))
 
 loop-holds : tie.Need-loop-holds Inv-loop μ-loop
-loop-holds c = (omega arith, omega arith, refl)
+loop-holds c = (omega arith, omega arith, refl, refl)
 
 code-run-requires : tie.Need-code-run-requires Inv-loop μ-loop
 code-run-requires c κs = ap length (c .before .before .before .pre) ∙ stops-length
@@ -84,32 +83,40 @@ char-at-requires c κs = search needs
 enum-known-code : tie.Need-enum-known-code Inv-loop μ-loop
 enum-known-code c = search needs
 
-add-code-turn : tie.Need-add-code-turn Inv-loop μ-loop
-add-code-turn c = omega (arith, here c)
+add-turn : tie.Need-add-turn Inv-loop μ-loop
+add-turn c = omega (arith, here c)
 
-code-turn-requires : tie.Need-code-turn-requires Inv-loop μ-loop
-code-turn-requires c κs = omega (arith, here c, ran (c .before .before .before .before) .0)
+turn-requires : tie.Need-turn-requires Inv-loop μ-loop
+turn-requires c κs = omega (arith, here c, ran (c .before .before .before .before) .0)
 
 enum-told : tie.Need-enum-told Inv-loop μ-loop
 enum-told c = search needs
 
 returns : tie.Need-returns Inv-loop μ-loop
-returns c = sym (walk-stop codeTurn _ (here (c .before .before .before)) _ _ (sym (c .before .before .code-turn .ensures) ∙ c .enum-told .given .1)) ∙ ran (c .before .before .before .before .before .before .before) .1
+returns c =
+    let h = here (c .before .before .before) in
+    let e = sym (c .before .before .turn .ensures .0) ∙ c .enum-told .given .1 in
+    let r = ran (c .before .before .before .before .before .before .before) in
+    (sym (walk-stop codeTurn _ h _ _ e) ∙ r .1, sym (depth-stop codeTurn h _ _ e) ∙ r .2)
 
-enum-known-r : tie.Need-enum-known-r Inv-loop μ-loop
-enum-known-r c = search needs
+enum-known-what : tie.Need-enum-known-what Inv-loop μ-loop
+enum-known-what c = search needs
 
-add-t21 : tie.Need-add-t21 Inv-loop μ-loop
-add-t21 c = omega (arith, here (c .before .before .before .before), ran (c .before .before .before .before .before .before .before .before) .0)
+add-t24 : tie.Need-add-t24 Inv-loop μ-loop
+add-t24 c = omega (arith, here (c .before .before .before .before), ran (c .before .before .before .before .before .before .before .before) .0)
 
-add-t22 : tie.Need-add-t22 Inv-loop μ-loop
-add-t22 c = let h = here (c .before .before .before .before) in let f = fails c in omega (arith, f .room (h .room), f .gone, ran (c .before .before .before .before .before .before .before .before) .0)
+add-t25 : tie.Need-add-t25 Inv-loop μ-loop
+add-t25 c = let h = here (c .before .before .before .before) in let f = fails c in omega (arith, f .room (h .room), f .gone, ran (c .before .before .before .before .before .before .before .before) .0)
 
 returns-2 : tie.Need-returns-2 Inv-loop μ-loop
-returns-2 c = sym (walk-fail codeTurn _ (here (c .before .before .before .before)) _ _ (sym (c .before .before .before .code-turn .ensures) ∙ c .before .r .given .1)) ∙ ran (c .before .before .before .before .before .before .before .before) .1
+returns-2 c =
+    let h = here (c .before .before .before .before) in
+    let e = sym (c .before .before .before .turn .ensures .0) ∙ c .before .what .given .1 in
+    let r = ran (c .before .before .before .before .before .before .before .before) in
+    (sym (walk-fail codeTurn _ h _ _ e) ∙ r .1, sym (depth-fail codeTurn h _ _ e) ∙ r .2)
 
-enum-known-q : tie.Need-enum-known-q Inv-loop μ-loop
-enum-known-q c = search needs
+enum-known-what-2 : tie.Need-enum-known-what-2 Inv-loop μ-loop
+enum-known-what-2 c = search needs
 
 add-n-2 : tie.Need-add-n-2 Inv-loop μ-loop
 add-n-2 c = omega (arith, here (c .before .before .before .before), ran (c .before .before .before .before .before .before .before .before) .0)
@@ -117,11 +124,26 @@ add-n-2 c = omega (arith, here (c .before .before .before .before), ran (c .befo
 add-n-3 : tie.Need-add-n-3 Inv-loop μ-loop
 add-n-3 c = let h = here (c .before .before .before .before) in let f = far c in omega (arith, f .0 .room (h .room), f .0 .gone, ran (c .before .before .before .before .before .before .before .before) .0)
 
+deeper-requires : tie.Need-deeper-requires Inv-loop μ-loop
+deeper-requires c κs = tt
+
 loop-less : tie.Need-loop-less Inv-loop μ-loop
-loop-less c = let h = here (c .before .before .before .before) in let f = far c in omega (arith, f .0 .room (h .room), f .0 .gone, ran (c .before .before .before .before .before .before .before .before) .0)
+loop-less c = let h = here (c .before .before .before .before .before) in let f = far (c .before) in omega (arith, f .0 .room (h .room), f .0 .gone, ran (c .before .before .before .before .before .before .before .before .before) .0)
 
 loop-again : tie.Need-loop-again Inv-loop μ-loop
-loop-again c = let h = here (c .before .before .before .before) in let f = far c in let g = f .0 .gone in let l = ran (c .before .before .before .before .before .before .before .before) .0 in (omega arith, omega arith, sym (walk-pass codeTurn _ h _ _ (sym (c .before .before .before .code-turn .ensures) ∙ c .before .q .given .1) (f .0)) ∙ ran (c .before .before .before .before .before .before .before .before) .1)
+loop-again c =
+    let h = here (c .before .before .before .before .before) in
+    let f = far (c .before) in
+    let g = f .0 .gone in
+    let r = ran (c .before .before .before .before .before .before .before .before .before) in
+    let e = sym (c .before .before .before .before .turn .ensures .0) ∙ c .before .before .what2 .given .1 in
+    let l = c .before .before .before .before .before .before .before .before .before .before .loop in
+    let k = r .0 in (
+      omega arith,
+      omega arith,
+      sym (walk-pass codeTurn _ h _ _ e (f .0)) ∙ r .1,
+      ap (depthFrom codeTurn 0 _ _ _) (c .deeper .ensures ∙ ap (deeper (l .deep)) (c .before .before .before .before .turn .ensures .1)) ∙ sym (depth-pass codeTurn h _ (l .deep) e (f .0)) ∙ r .2,
+    )
 
 enum-told-2 : tie.Need-enum-told-2 Inv-loop μ-loop
 enum-told-2 c = search needs
@@ -134,14 +156,21 @@ ends c =
     sym (walk-end codeTurn _ (ended _ _ (sym (c .before .before .char-at .ensures) ∙ c .enum-told2 .given .1)) _ _)
     ∙ ran (c .before .before .before) .1
 
+deep-ends : (c : tie.After-enum-told2 Inv-loop μ-loop)
+    → c .before .before .before .before .loop .deep
+    ≡ codeDepth (chars (drop (c .before .before .before .before .before .before .before .args .at) (c .before .before .before .before .before .before .before .args .s .now))) (c .before .before .before .before .before .before .before .args .at)
+deep-ends c =
+    sym (depth-end codeTurn (ended _ _ (sym (c .before .before .char-at .ensures) ∙ c .enum-told2 .given .1)) _ _)
+    ∙ ran (c .before .before .before) .2
+
 returns-3 : tie.Need-returns-3 Inv-loop μ-loop
-returns-3 c = rw (← (ends (c .before))) (search picks)
+returns-3 c = (rw (← (ends (c .before))) (search picks), deep-ends (c .before))
 
 lost-requires : tie.Need-lost-requires Inv-loop μ-loop
 lost-requires c κs = search needs
 
 returns-4 : tie.Need-returns-4 Inv-loop μ-loop
-returns-4 c = rw (← (ends (c .before .before))) (search picks)
+returns-4 c = (rw (← (ends (c .before .before))) (search picks), deep-ends (c .before .before))
 
 pub code-by-spec : {M : Type 1} → statement M
 code-by-spec =
@@ -155,17 +184,18 @@ code-by-spec =
     add-n
     char-at-requires
     enum-known-code
-    add-code-turn
-    code-turn-requires
+    add-turn
+    turn-requires
     enum-told
     returns
-    enum-known-r
-    add-t21
-    add-t22
+    enum-known-what
+    add-t24
+    add-t25
     returns-2
-    enum-known-q
+    enum-known-what-2
     add-n-2
     add-n-3
+    deeper-requires
     loop-less
     loop-again
     enum-told-2

@@ -11,7 +11,6 @@ use Rattle.code.proofs.code_turn.Lts as lts
 use Rattle.code.proofs.is_close.Reads as is-close-reads
 use Rattle.code.proofs.is_open.Reads as is-open-reads
 use Rattle.code.proofs.r_skip.Reads as r-skip-reads
-use Rattle.code.proofs.slash_skip.Reads as slash-skip-reads
 use Rattle.code.proofs.take_lifetime_or_character_literal.Reads as take-lifetime-or-character-literal-reads
 use Rattle.scan.proofs.string_skip.Reads as string-skip-reads
 use Rattle.scan.proofs.to_turn.Reads as to-turn-reads
@@ -46,31 +45,25 @@ returns-3 : tie.Need-returns-3
 unfolding codeTurn
 returns-3 c = let h = c .to-turn3 .ensures ∙ ap (turnOf _) (c .before .r-skip .ensures) in search flags depth 12
 
-slash-skip-requires : tie.Need-slash-skip-requires
-slash-skip-requires c κs = search needs
-
-to-turn-requires-4 : tie.Need-to-turn-requires-4
-to-turn-requires-4 c κs = search needs
-
-returns-4 : tie.Need-returns-4
-unfolding codeTurn
-returns-4 c = let h = c .to-turn4 .ensures ∙ ap (turnOf _) (c .before .slash-skip .ensures) in search flags depth 12
-
 is-open-requires : tie.Need-is-open-requires
 is-open-requires c κs = search needs
 
-add-t12 : tie.Need-add-t12
-add-t12 c = search needs
+add-t11 : tie.Need-add-t11
+add-t11 c = search needs
 
-returns-5 : tie.Need-returns-5
+returns-4 : tie.Need-returns-4
 unfolding codeTurn
-returns-5 c = search flags depth 12
+returns-4 c = search flags depth 12
 
 is-close-requires : tie.Need-is-close-requires
 is-close-requires c κs = search needs
 
-sub-t14 : tie.Need-sub-t14
-sub-t14 c = search needs
+sub-t13 : tie.Need-sub-t13
+sub-t13 c = search needs
+
+returns-5 : tie.Need-returns-5
+unfolding codeTurn
+returns-5 c = search flags depth 12
 
 returns-6 : tie.Need-returns-6
 unfolding codeTurn
@@ -84,20 +77,16 @@ returns-8 : tie.Need-returns-8
 unfolding codeTurn
 returns-8 c = search flags depth 12
 
+is-close-requires-2 : tie.Need-is-close-requires-2
+is-close-requires-2 c κs = search needs
+
 returns-9 : tie.Need-returns-9
 unfolding codeTurn
 returns-9 c = search flags depth 12
 
-is-close-requires-2 : tie.Need-is-close-requires-2
-is-close-requires-2 c κs = search needs
-
 returns-10 : tie.Need-returns-10
 unfolding codeTurn
 returns-10 c = search flags depth 12
-
-returns-11 : tie.Need-returns-11
-unfolding codeTurn
-returns-11 c = search flags depth 12
 
 pub code-turn-spec : {M : Type 1} → statement M
 code-turn-spec =
@@ -112,18 +101,15 @@ code-turn-spec =
     r-skip-requires
     to-turn-requires-3
     returns-3
-    slash-skip-requires
-    to-turn-requires-4
-    returns-4
     is-open-requires
-    add-t12
-    returns-5
+    add-t11
+    returns-4
     is-close-requires
-    sub-t14
+    sub-t13
+    returns-5
     returns-6
     returns-7
     returns-8
-    returns-9
     is-close-requires-2
-    returns-10
-    returns-11)
+    returns-9
+    returns-10)

@@ -2,8 +2,8 @@
 use native.Mathlib.Omega.{arith}
 use mathlib.Core.Path.{refl}
 use Rattle.reading.specs.declared.Outcome.the-variants.{Ended, Running}
-use Rattle.commands.specs.Laws.{stored-room, wide}
-use Rattle.files.specs.Laws.{pack-ended, pack-long, pack-refused}
+use Rattle.commands.specs.Laws.{stored-room}
+use Rattle.files.specs.Laws.{pack-ended, pack-long, pack-refused, wide}
 use borrow.Author.Needs.{needs}
 use Rattle.files.proofs.pack.Statement.{statement}
 use Rattle.files.proofs.pack.Tie as tie

@@ -1,6 +1,5 @@
 -- `files::read_onto` meets its contract.
-use Rattle.commands.specs.Laws.{wide}
-use Rattle.files.specs.Laws.{long-held, read-after, read-end, read-mid, read-not}
+use Rattle.files.specs.Laws.{long-held, read-after, read-end, read-mid, read-not, wide}
 use borrow.Author.Needs.{needs}
 use Rattle.files.proofs.read_onto.Statement.{statement}
 use Rattle.files.proofs.read_onto.Tie as tie

@@ -47,11 +47,12 @@ use denote.Exit.{yes}
 use Rattle.run.specs.Checked.{nextToken}
 use Rattle.reading.specs.declared.Tokenizer.{Tokenizer}
 use Rattle.reading.specs.declared.Stepped.{Stepped}
+use Rattle.lent.specs.declared.Called.{Called}
 use Rattle.reading.specs.declared.What.{What}
 use Rattle.reading.proofs.Tokenizer as T
 use Rattle.reading.proofs.Tokenizer.Laws as T′
-use Rattle.reading.proofs.Stepped as S
-use Rattle.reading.proofs.Stepped.Laws as S′
+use Rattle.lent.proofs.Called as S
+use Rattle.lent.proofs.Called.Laws as S′
 use Rattle.reading.proofs.What as N
 use Rattle.reading.proofs.What.Laws as N′
 use Rattle.run.proofs.next as next
@@ -77,21 +78,18 @@ tval = LL.val T.the-type T′.the-laws
 abbrev aval : What → Val
 aval = EL.val N.the-type N′.the-laws
 
-abbrev sval : Stepped → Val
+abbrev sval : Called → Val
 sval = LL.val S.the-type S′.the-laws
 
-abbrev stepped : What → Tokenizer → Stepped
-stepped w t = record { what = w; next = t }
+abbrev called : What → Tokenizer → Called
+called w t = record { what = w; next = t }
 
 -- what is returned, at the machine value that it spells
 known-w : (r : What) (vs : List Val) → Is N.the-row r vs → Is N.the-row r (aval r ∷ [])
 known-w r vs is = EL.owes N.the-type N′.the-laws r (EL.owed N.the-type N′.the-laws r vs is)
 
-stepped-is : (w : What) (t : Tokenizer) → Is N.the-row w (aval w ∷ []) → Is T.the-row t (tvals t) → Is S.the-row (stepped w t) (sval (stepped w t) ∷ [])
-stepped-is w t iw it = LL.owes S.the-type S′.the-laws (stepped w t) (iw, (it, tt))
-
-stepped-same : (w : What) (t : Tokenizer) (x : Stepped) → (w ≡ x .what) × (t ≡ x .next) → stepped w t ≡ x
-stepped-same w t x e = ap (λ (z : What). stepped z t) (e .0) ∙ ap (λ (z : Tokenizer). stepped (x .what) z) (e .1)
+called-is : (w : What) (t : Tokenizer) → Is N.the-row w (aval w ∷ []) → Is T.the-row t (tvals t) → Is S.the-row (called w t) (sval (called w t) ∷ [])
+called-is w t iw it = LL.owes S.the-type S′.the-laws (called w t) (iw, (it, tt))
 
 module _ {M : Type 1} (𝓤 : URA M) (H : Heap 𝓤) (A : Atoms 𝓤) (at-mem : Memory → SProp 𝓤) (run : Routine → Fun 𝓤) where
   -- the contract that the proof cites
@@ -122,7 +120,7 @@ module _ {M : Type 1} (𝓤 : URA M) (H : Heap 𝓤) (A : Atoms 𝓤) (W : Given
   abbrev Post : Val → SProp 𝓤
   Post = walkOf 𝓤 H A f.ended stayed (f.clauses 𝓤 H A at-mem run) .post (((κ, tt), (q, tt), tt, a, at), tt)
 
-  exits : (x : Stepped) → Is S.the-row x (sval x ∷ []) → x ≡ found → ent 𝓤 (⋆ 𝓤 H A (‵ (flft κ q) ∷ ‵ Text ∷ [])) (Post (sval x))
+  exits : (x : Called) → Is S.the-row x (sval x ∷ []) → (x .what ≡ found .what) × (x .next ≡ found .next) → ent 𝓤 (⋆ 𝓤 H A (‵ (flft κ q) ∷ ‵ Text ∷ [])) (Post (sval x))
   exits x is e =
       qed W (‵ (flft κ q) ∷ ‵ Text ∷ []) ∵
       suffices ! _ (ends-at 𝓤 H A f.ended stayed (f.clauses 𝓤 H A at-mem run) W (((κ, tt), (q, tt), tt, a, at), tt) (sval x) x (tt, (tt, (tt, (tt, tt)))) (tt, (tt, (tt, (tt, tt))))) $ says ! e $
@@ -183,10 +181,10 @@ module _ {M : Type 1} (𝓤 : URA M) (H : Heap 𝓤) (A : Atoms 𝓤) (W : Given
         move ! (1 ∷ []) $ peeks ! T.the-row (Is T.the-row) (shows 𝓤 H A T.the-row) (zs .1 .1 .1 .0) (tvals (zs .1 .1 .1 .0)) (λ it. move ! (1 ∷ 0 ∷ []) $
         -- [_5; what it owns; true; the text's token; the answer; what else is said, four times; what text owns; true; the others'; _8; …; _7; …; _6; …; what frees _5; _4; …; _3; …; _2; …; _1; …; room for _0; …]
         assigns ! (of-opd ! (load ! (from ! (stop !)) (look ! 0 refl))) (from ! (stop !)) (init ! 12 refl (LL.lawful T.the-type T′.the-laws 𝓤 H A W .typed (zs .1 .1 .1 .0) _ it .0)) $
-        assigns ! (agg ! (and-then ! (load ! (from ! (stop !)) (look ! 16 refl)) (and-then ! (load ! (from ! (stop !)) (look ! 12 refl)) (no-more !)))) (from ! (stop !)) (init ! 27 refl (LL.lawful S.the-type S′.the-laws 𝓤 H A W .typed (stepped r (zs .1 .1 .1 .0)) _ (stepped-is r (zs .1 .1 .1 .0) (known-w r (w ∷ []) is) it) .0)) $
+        assigns ! (agg ! (and-then ! (load ! (from ! (stop !)) (look ! 16 refl)) (and-then ! (load ! (from ! (stop !)) (look ! 12 refl)) (no-more !)))) (from ! (stop !)) (init ! 27 refl (LL.lawful S.the-type S′.the-laws 𝓤 H A W .typed (called r (zs .1 .1 .1 .0)) _ (called-is r (zs .1 .1 .1 .0) (known-w r (w ∷ []) is) it) .0)) $
         returns ! (look ! 27 refl) $ forget ! 0 refl $ forget ! 12 refl $ forget ! 14 refl $ forget ! 16 refl $ forget ! 19 refl $ forget ! 21 refl $ forget ! 23 refl $ forget ! 25 refl $ forget ! 27 refl $
         move ! (27 ∷ 28 ∷ []) $ free1 ! $ move ! (25 ∷ 26 ∷ []) $ free1 ! $ move ! (23 ∷ 24 ∷ []) $ free1 ! $ move ! (21 ∷ 22 ∷ []) $ free1 ! $ move ! (19 ∷ 20 ∷ []) $ free1 ! $ move ! (0 ∷ 18 ∷ []) $ free1 ! $ move ! (15 ∷ 16 ∷ []) $ free1 ! $ move ! (13 ∷ 14 ∷ []) $ free1 ! $ move ! (11 ∷ 12 ∷ []) $ free1 ! $ free0 ! $
-        keep ! (2 ∷ 8 ∷ []) $ by ! (exits (stepped r (zs .1 .1 .1 .0)) (stepped-is r (zs .1 .1 .1 .0) (known-w r (w ∷ []) is) it) (stepped-same r (zs .1 .1 .1 .0) found e))))))))))))))))))))
+        keep ! (2 ∷ 8 ∷ []) $ by ! (exits (called r (zs .1 .1 .1 .0)) (called-is r (zs .1 .1 .1 .0) (known-w r (w ∷ []) is) it) e)))))))))))))))))))
 
 module _ {M : Type 1} (𝓤 : URA M) (H : Heap 𝓤) (A : Atoms 𝓤) (W : Given 𝓤 H A) (at-mem : Memory → SProp 𝓤) (run : Routine → Fun 𝓤) where
   next-lent-walks : (C : Calls 𝓤 H) (Λ : Loops 𝓤 H) → FmC 𝓤 H (W .laws) C → Triple 𝓤 (C #run·next) (Next 𝓤 H A at-mem run) → Walks 𝓤 H A f.ended stayed (WpFn 𝓤 H C Λ code.function) (f.clauses 𝓤 H A at-mem run)

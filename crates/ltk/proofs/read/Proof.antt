@@ -107,11 +107,11 @@ split-on true f g = f refl
 split-on false f g = g refl
 
 -- the product that MIR computes for the place fits
-place-fits : (i n : ℕ) → i < n → n * 40 < 2 ^ 63 → i * 40 < 2 ^ 64
+place-fits : (i n : ℕ) → i < n → n * 72 < 2 ^ 63 → i * 72 < 2 ^ 64
 place-fits i n l g = omega (arith, l, g)
 
 -- a list of records in memory is short
-short : (n : ℕ) → n * 40 < 2 ^ 63 → n < indexLimit
+short : (n : ℕ) → n * 72 < 2 ^ 63 → n < indexLimit
 short n h = omega (arith, h)
 
 -- a state of the loop: the pending record, the list, and what is known of them
@@ -252,7 +252,7 @@ module _ {M : Type 1} (𝓤 : URA M) (H : Heap 𝓤) (A : Atoms 𝓤) (W : Given
         in-list : p .at < length ys
         in-list = subst (λ (m : ℕ). p .at < m) (sym (t .inv .same)) in-room
 
-        fits : p .at * 40 < 2 ^ 64
+        fits : p .at * 72 < 2 ^ 64
         fits = place-fits (p .at) (length xs) in-room (room .1)
 
         -- a turn that stores a record
@@ -263,7 +263,7 @@ module _ {M : Type 1} (𝓤 : URA M) (H : Heap 𝓤) (A : Atoms 𝓤) (W : Given
             rewrite ! 10 (λ (z : Bool). ‵ (fat fullShare tyBool l₅ 0 (vbool z))) e refl $ stays ! (load ! (from ! (stop !)) (look ! 10 refl)) $
             assigns ! (bin ! (load ! (from ! (fld ! refl (stop !))) (look-in ! 12 (sub ! 1 refl (whole !)))) (lit ! tt) (record { fits = fits })) (from ! (stop !)) (init ! 8 refl (tt, record { fits = fits })) $
             assigns ! (bin ! (load ! (from ! (fld ! refl (stop !))) (look-in ! 16 (sub ! 0 refl (whole !)))) (load ! (from ! (stop !)) (look ! 8 refl)) tt) (from ! (stop !)) (init ! 6 refl (tt, tt)) $
-            rewrite ! 6 (λ (u : ℕ). ‵ (fat fullShare tyPtr l₇ 0 (vptr b u))) (sym (place-is 40 o (p .at))) refl $
+            rewrite ! 6 (λ (u : ℕ). ‵ (fat fullShare tyPtr l₇ 0 (vptr b u))) (sym (place-is 72 o (p .at))) refl $
             elem-out ! K.the-row (Is K.the-row) (shows 𝓤 H A K.the-row) kvals (LL.tells K.the-type K′.the-laws) fullShare ys (p .at) (p .token) b o in-list (λ _.
             -- [list[i]; what it owns; the others; the open borrow; obs; auth; the file's token; what file owns; _7; …; _6; …; _5; …; _4; …]
             assigns ! (of-opd ! (load ! (from ! (fld ! refl (stop !))) (look-in ! 14 (sub ! 2 refl (whole !))))) (from ! (hop ! (look ! 8 refl) (stop !))) (store-raw ! 0 refl (LL.lawful K.the-type K′.the-laws 𝓤 H A W .typed (p .token) _ (token-is p (t .is)) .0)) $

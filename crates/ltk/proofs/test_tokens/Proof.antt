@@ -103,7 +103,7 @@ answer-is : (y : Tests) → Is Y.the-row y (yvals y) → Is N.the-row (y .answer
 answer-is y is = LL.owed Y.the-type Y′.the-laws y (yvals y) is .1 .1 .1 .0
 
 -- a list of records in memory is short
-short : (n : ℕ) → n * 40 < 2 ^ 63 → n < indexLimit
+short : (n : ℕ) → n * 72 < 2 ^ 63 → n < indexLimit
 short n h = omega (arith, h)
 
 -- what is returned, at the machine value that it spells

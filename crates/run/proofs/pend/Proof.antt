@@ -36,8 +36,8 @@ halted-requires-2 c κs = search needs
 enum-told : tie.Need-enum-told
 enum-told c = search needs
 
-halted-requires-3 : tie.Need-halted-requires-3
-halted-requires-3 c κs = search needs
+ended-requires : tie.Need-ended-requires
+ended-requires c κs = search needs
 
 returns-2 : tie.Need-returns-2
 unfolding pendOf
@@ -49,7 +49,7 @@ returns-3 c = rw (← (c .before .before .before .before .before .step .ensures)
 
 returns-4 : tie.Need-returns-4
 unfolding pendOf
-returns-4 c = rw (← (c .before .before .before .before .step .ensures)) (rw (c .before .enum-told .given .1) (c .halted3 .ensures))
+returns-4 c = rw (← (c .before .before .before .before .step .ensures)) (rw (c .before .enum-told .given .1) (c .ended .ensures))
 
 pub pend-spec : {M : Type 1} → statement M
 pend-spec =
@@ -63,7 +63,7 @@ pend-spec =
     enum-known-what-2
     halted-requires-2
     enum-told
-    halted-requires-3
+    ended-requires
     returns-2
     returns-3
     returns-4)

@@ -1,94 +1,60 @@
 -- `run::put_group` meets its contract.
-use Prim.Native.Nat.{_*_}
-use native.Mathlib.Omega.{arith}
+use Prim.Native.Nat.{ℕ, _+_}
+use mathlib.Core.List.{List}
 use mathlib.Core.Path.{ap, _∙_}
-use lib.ListN.{length, length-set}
-use Rattle.run.specs.Numbers.{groupSize}
-use Rattle.run.proofs.Groups.{group-laid}
+use native.Mathlib.Omega.{arith}
+use lib.ListN.{length}
+use lib.Seq.{length-sets, sets}
 use borrow.Author.Needs.{needs}
+use Rattle.run.specs.Numbers.{toldOf}
+use Rattle.run.proofs.Groups.{nine-laid, size-least}
 use Rattle.run.proofs.put_group.Statement.{statement}
 use Rattle.run.proofs.put_group.Tie as tie
-use Rattle.run.proofs.put_group.Reads as reads
-use Rattle.run.proofs.put_group.Lts as lts
-use Rattle.record.proofs.kind_number.Reads as kind-number-reads
 
-mul-p : tie.Need-mul-p
-mul-p c = search needs
+put-five-requires : tie.Need-put-five-requires
+put-five-requires c κs = omega (arith, size-least (c .before .before .args .g), c .before .before .pre)
 
-kind-number-requires : tie.Need-kind-number-requires
-kind-number-requires c κs = search needs
+enum-told : tie.Need-enum-told
+enum-told c = search needs
 
-cast-records : tie.Need-cast-records
-cast-records c = search needs
+enum-told-2 : tie.Need-enum-told-2
+enum-told-2 c = search needs
 
-mul-records : tie.Need-mul-records
-mul-records c = search needs
+add-put-told : tie.Need-add-put-told
+add-put-told c = search needs
 
-slice-write-records : tie.Need-slice-write-records
-slice-write-records c = search needs
-
-add-records : tie.Need-add-records
-add-records c = search needs
-
-mul-records-2 : tie.Need-mul-records-2
-mul-records-2 c = search needs
-
-slice-write-records-2 : tie.Need-slice-write-records-2
-slice-write-records-2 c = simp length-set (omega arith)
-
-add-records-2 : tie.Need-add-records-2
-add-records-2 c = search needs
-
-mul-records-3 : tie.Need-mul-records-3
-mul-records-3 c = search needs
-
-slice-write-records-3 : tie.Need-slice-write-records-3
-slice-write-records-3 c = simp length-set (omega arith)
-
-add-records-3 : tie.Need-add-records-3
-add-records-3 c = search needs
-
-mul-records-4 : tie.Need-mul-records-4
-mul-records-4 c = search needs
-
-slice-write-records-4 : tie.Need-slice-write-records-4
-slice-write-records-4 c = simp length-set (omega arith)
-
-add-records-4 : tie.Need-add-records-4
-add-records-4 c = search needs
-
-mul-records-5 : tie.Need-mul-records-5
-mul-records-5 c = search needs
-
-slice-write-records-5 : tie.Need-slice-write-records-5
-slice-write-records-5 c = simp length-set (omega arith)
+put-told-requires : tie.Need-put-told-requires
+put-told-requires c κs =
+    let a = c .before .before .before .before .before .before .before .before .args in
+    let q = rw (c .before .enum-told2 .given .1) at (c .before .before .before .before .before .before .before .before .pre) in
+    let l = simp length-sets at (ap length (c .before .before .before .before .before .put-five .ensures)) in
+    omega (arith, q, l)
 
 same-length : tie.Need-same-length
 same-length c = search needs
 
 returns : tie.Need-returns
-returns c = rw (c .kind-number .ensures) (group-laid (c .before .before .args .records .now) (groupSize * c .before .before .args .i) (c .before .before .args .t))
+returns c = rw (c .enum-told .given .1) (c .before .before .before .before .put-five .ensures)
+
+same-length-2 : tie.Need-same-length-2
+same-length-2 c = search needs
+
+returns-2 : tie.Need-returns-2
+returns-2 c =
+    let a = c .before .before .before .before .before .before .before .before .before .before .before .args in
+    rw (c .before .before .before .before .enum-told2 .given .1)
+    (c .before .before .put-told .ensures ∙ ap (λ (l : List ℕ). sets l (a .p + 5) (toldOf (a .t))) (c .before .before .before .before .before .before .before .before .put-five .ensures) ∙ nine-laid (a .records .now) (a .p) (a .t))
 
 pub put-group-spec : {M : Type 1} → statement M
 put-group-spec =
     tie.close
     (tie.spec
-    mul-p
-    kind-number-requires
-    cast-records
-    mul-records
-    slice-write-records
-    add-records
-    mul-records-2
-    slice-write-records-2
-    add-records-2
-    mul-records-3
-    slice-write-records-3
-    add-records-3
-    mul-records-4
-    slice-write-records-4
-    add-records-4
-    mul-records-5
-    slice-write-records-5
+    put-five-requires
+    enum-told
+    enum-told-2
+    add-put-told
+    put-told-requires
     same-length
-    returns)
+    returns
+    same-length-2
+    returns-2)

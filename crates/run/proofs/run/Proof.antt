@@ -119,7 +119,7 @@ split-on true f g = f refl
 split-on false f g = g refl
 
 -- the product that MIR computes for the place fits
-place-fits : (i n : ℕ) → i < n → n * 40 < 2 ^ 63 → i * 40 < 2 ^ 64
+place-fits : (i n : ℕ) → i < n → n * 72 < 2 ^ 63 → i * 72 < 2 ^ 64
 place-fits i n l g = omega (arith, l, g)
 
 -- a state of the loop: the bound, the pending token, the list, and what is known of them
@@ -267,7 +267,7 @@ module _ {M : Type 1} (𝓤 : URA M) (H : Heap 𝓤) (A : Atoms 𝓤) (W : Given
         in-list : p .ran .stored < length ys
         in-list = subst (λ (m : ℕ). p .ran .stored < m) (sym (same-length (s .now) i n xs f (t .k) p ys (t .inv))) in-room
 
-        fits : p .ran .stored * 40 < 2 ^ 64
+        fits : p .ran .stored * 72 < 2 ^ 64
         fits = place-fits (p .ran .stored) (length xs) in-room (room .1)
 
         nx : Next (s .now) i n xs f (t .k) p ys
@@ -281,7 +281,7 @@ module _ {M : Type 1} (𝓤 : URA M) (H : Heap 𝓤) (A : Atoms 𝓤) (W : Given
             rewrite ! 10 (λ (z : Bool). ‵ (fat fullShare tyBool l₈ 0 (vbool z))) e refl $ stays ! (load ! (from ! (stop !)) (look ! 10 refl)) $
             assigns ! (bin ! (load ! (from ! (fld ! refl (fld ! refl (stop !)))) (look-in ! 12 (sub ! 0 refl (sub ! 2 refl (whole !))))) (lit ! tt) (record { fits = fits })) (from ! (stop !)) (init ! 8 refl (tt, record { fits = fits })) $
             assigns ! (bin ! (load ! (from ! (fld ! refl (stop !))) (look-in ! 18 (sub ! 0 refl (whole !)))) (load ! (from ! (stop !)) (look ! 8 refl)) tt) (from ! (stop !)) (init ! 6 refl (tt, tt)) $
-            rewrite ! 6 (λ (u : ℕ). ‵ (fat fullShare tyPtr l₁₀ 0 (vptr b u))) (sym (place-is 40 o (p .ran .stored))) refl $
+            rewrite ! 6 (λ (u : ℕ). ‵ (fat fullShare tyPtr l₁₀ 0 (vptr b u))) (sym (place-is 72 o (p .ran .stored))) refl $
             elem-out ! K.the-row (Is K.the-row) (shows 𝓤 H A K.the-row) kvals (LL.tells K.the-type K′.the-laws) fullShare ys (p .ran .stored) (p .token) b o in-list (λ _.
             -- [list[i]; what it owns; the others; the open borrow; obs; auth; the text's token; what text owns; _10; …; _9; …; _8; …; _7; …]
             assigns ! (of-opd ! (load ! (from ! (fld ! refl (stop !))) (look-in ! 14 (sub ! 1 refl (whole !))))) (from ! (hop ! (look ! 8 refl) (stop !))) (store-raw ! 0 refl (LL.lawful K.the-type K′.the-laws 𝓤 H A W .typed (p .token) _ (token-is p (t .is)) .0)) $

@@ -38,10 +38,10 @@ returns c =
     rw (runs-as (c .before .before .before .before .before .before .before .before .args .from) (c .before .before .before .before .enum-told .given .1)) (c .before .before .store-on .ensures)
 
 returns-2 : tie.Need-returns-2
-returns-2 c = let p = c .before .before .before .before .before .before .pre in let o = idle-run _ _ _ _ _ _ _ (p .0) (p .1) (again-end _ _ _ _ _ (c .before .before .enum-told2 .given .1)) in (ap (λ (q : Pending). q .ran) (c .before .halted .ensures) ∙ o .0, o .1)
+returns-2 c = let p = c .before .before .before .before .before .before .pre in let o = idle-run _ _ _ _ _ _ _ _ (p .0) (p .1) (again-end _ _ _ _ _ (c .before .before .enum-told2 .given .1)) in (ap (λ (q : Pending). q .ran) (c .before .halted .ensures) ∙ o .0, o .1)
 
 returns-3 : tie.Need-returns-3
-returns-3 c = let p = c .before .before .before .before .before .before .before .pre in let o = idle-run _ _ _ _ _ _ _ (p .0) (p .1) (again-error _ _ _ _ _ _ (c .before .before .before .done .given .1)) in (ap (λ (q : Pending). q .ran) (c .before .halted2 .ensures) ∙ o .0, o .1)
+returns-3 c = let p = c .before .before .before .before .before .before .before .pre in let o = idle-run _ _ _ _ _ _ _ _ (p .0) (p .1) (again-error _ _ _ _ _ _ (c .before .before .before .done .given .1)) in (ap (λ (q : Pending). q .ran) (c .before .halted2 .ensures) ∙ o .0, o .1)
 
 pub store-all-spec : {M : Type 1} → statement M
 store-all-spec =

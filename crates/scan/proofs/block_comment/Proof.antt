@@ -16,10 +16,10 @@ comment-end-requires : tie.Need-comment-end-requires
 comment-end-requires c κs = search needs
 
 through-requires : tie.Need-through-requires
-through-requires c κs = λ p m e. let h = closed-within (c .before .before .args .s .now) (c .before .before .args .at) p m (comment-past _ _ p m (sym (c .comment-end .ensures) ∙ e)) in (omega arith, omega arith)
+through-requires c κs = λ p m e. let h = closed-within (c .before .before .args .s .now) (c .before .before .args .at) p m (comment-past _ _ p m (sym (c .comment-end .ensures .0) ∙ e)) in (omega arith, omega arith)
 
 returns : tie.Need-returns
-returns c = c .through .ensures ∙ ap (through _ _) (c .before .comment-end .ensures)
+returns c = (c .through .ensures ∙ ap (through _ _) (c .before .comment-end .ensures .0), c .before .comment-end .ensures .1)
 
 pub block-comment-spec : {M : Type 1} → statement M
 block-comment-spec = tie.close (tie.spec comment-end-requires through-requires returns)

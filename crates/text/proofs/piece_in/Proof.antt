@@ -16,13 +16,16 @@ returns-2 : tie.Need-returns-2
 returns-2 c = rw (c .before .before .before .before .before .p2 .given .1) (c .before .before .number-in .ensures)
 
 returns-3 : tie.Need-returns-3
-returns-3 c = rw (c .before .before .before .before .before .p3 .given .1) (c .before .before .kind-in .ensures)
+returns-3 c = rw (c .before .before .before .before .before .p3 .given .1) (c .before .before .spaced-in .ensures)
 
 returns-4 : tie.Need-returns-4
-returns-4 c = rw (c .before .before .before .before .before .p4 .given .1) (c .before .before .code-in .ensures)
+returns-4 c = rw (c .before .before .before .before .before .p4 .given .1) (c .before .before .kind-in .ensures)
 
 returns-5 : tie.Need-returns-5
-returns-5 c = rw (c .enum-told .given .1) (omega arith, refl)
+returns-5 c = rw (c .before .before .before .before .before .p5 .given .1) (c .before .before .code-in .ensures)
+
+returns-6 : tie.Need-returns-6
+returns-6 c = rw (c .enum-told .given .1) (omega arith, refl)
 
 pub piece-in-spec : {M : Type 1} → statement M
 piece-in-spec =
@@ -37,6 +40,8 @@ piece-in-spec =
     (λ c. search needs)
     (λ c κs. search needs)
     (λ c. search needs)
+    (λ c κs. search needs)
+    (λ c. search needs)
     (λ c. search needs)
     returns
     (λ c. search needs)
@@ -45,4 +50,6 @@ piece-in-spec =
     returns-3
     (λ c. search needs)
     returns-4
-    returns-5)
+    (λ c. search needs)
+    returns-5
+    returns-6)

@@ -6,10 +6,10 @@ use Rattle.teyk.proofs.has_options.Statement.{statement}
 use Rattle.teyk.proofs.has_options.Tie as tie
 
 abbrev Inv-loop : tie.InvT-loop
-Inv-loop count i₀ i = 2 ≤ i
+Inv-loop first count i₀ i = first ≤ i
 
 abbrev μ-loop : tie.MeasureT-loop
-μ-loop count i₀ i = count - i
+μ-loop first count i₀ i = count - i
 
 pub has-options-spec : {M : Type 1} → statement M
 has-options-spec =

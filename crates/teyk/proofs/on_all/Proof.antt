@@ -6,10 +6,10 @@ use Rattle.teyk.proofs.on_all.Statement.{statement}
 use Rattle.teyk.proofs.on_all.Tie as tie
 
 abbrev Inv-loop : tie.InvT-loop
-Inv-loop command count i₀ i = 2 ≤ i
+Inv-loop command first count i₀ i = first ≤ i
 
 abbrev μ-loop : tie.MeasureT-loop
-μ-loop command count i₀ i = count - i
+μ-loop command first count i₀ i = count - i
 
 pub on-all-spec : {M : Type 1} → statement M
 on-all-spec =
@@ -17,6 +17,7 @@ on-all-spec =
     (tie.spec
     Inv-loop
     μ-loop
+    (λ c. omega arith)
     (λ c. omega arith)
     (λ c κs. search needs)
     (λ c. tt)

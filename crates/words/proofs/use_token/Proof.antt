@@ -1,8 +1,7 @@
 -- `words::use_token` meets its contract.
-use mathlib.Core.Path.{ap, _∙_}
+use mathlib.Core.Path.{_∙_}
 use borrow.Author.Needs.{needs}
-use Rattle.record.specs.declared.Kind.the-variants.{Use}
-use Rattle.reading.specs.Words.{codeToken, useToken}
+use Rattle.reading.specs.Words.{useToken}
 use Rattle.words.proofs.use_token.Statement.{statement}
 use Rattle.words.proofs.use_token.Tie as tie
 
@@ -14,7 +13,7 @@ code-token-requires c κs = search needs
 
 returns : tie.Need-returns
 unfolding useToken
-returns c = c .code-token .ensures ∙ ap (codeToken Use (c .before .before .before .args .o) (c .before .before .before .args .p)) (c .before .code .ensures)
+returns c = c .code-token .ensures ∙ rw (c .before .code .ensures .0, c .before .code .ensures .1)
 
 pub use-token-spec : {M : Type 1} → statement M
 use-token-spec = tie.close (tie.spec code-requires code-token-requires returns)

@@ -28,7 +28,7 @@ enum-known-p c = search needs
 
 -- src/alone.rt:204:13
 after-gap-requires : tie.Need-after-gap-requires
-after-gap-requires c κs = (c .before .before .before .before .before .before .before .pre, gapped (c .before .before .before .before .before .before .before .args .text .now) (c .before .before .before .before .before .before .before .args .at) (c .before .before .before .before .before .before .before .args .count) _ _ _ (sym (c .before .before .before .before .apart .ensures) ∙ c .before .before .p .given .1))
+after-gap-requires c κs = (c .before .before .before .before .before .before .before .pre, gapped (c .before .before .before .before .before .before .before .args .text .now) (c .before .before .before .before .before .before .before .args .at) (c .before .before .before .before .before .before .before .args .count) _ _ _ _ (sym (c .before .before .before .before .apart .ensures) ∙ c .before .before .p .given .1))
 
 -- src/alone.rt:197:1
 returns : tie.Need-returns

@@ -1,11 +1,13 @@
 -- `sheet::gaps::apart_far` meets its contract.
 use Prim.Native.Nat.{ℕ, _≤_, _-_, _+_}
-use mathlib.Core.Path.{_≡_, sym, _∙_}
+use mathlib.Core.Path.{_≡_, ap, sym, _∙_}
 use mathlib.Core.List.{List}
 use native.Mathlib.Omega.{arith}
 use lib.ListN.{length}
 use borrow.Author.Needs.{needs}
 use Rattle.utf8.specs.Laws.{Seen, seen, ended}
+use Rattle.scan.specs.Deepens.{depth-end, depth-stop}
+use Rattle.scan.specs.Depth.{deeper}
 use Rattle.scan.specs.Far.{lands}
 use Rattle.scan.specs.Turns.{walk-end, walk-fail, walk-stop}
 use Rattle.scan.specs.Until.{left}
@@ -17,10 +19,10 @@ use Rattle.sheet.proofs.gaps.apart_far.Statement.{statement}
 use Rattle.sheet.proofs.gaps.apart_far.Tie as tie
 
 abbrev Inv-loop : tie.InvT-loop
-Inv-loop s from at₀ white₀ comment₀ at white comment = (white + comment + from ≤ at) × Reached s from at white comment
+Inv-loop s from at₀ white₀ comment₀ deep₀ at white comment deep = (white + comment + from ≤ at) × Reached s from at white comment deep
 
 abbrev μ-loop : tie.MeasureT-loop
-μ-loop s from at₀ white₀ comment₀ at white comment = length s - at
+μ-loop s from at₀ white₀ comment₀ deep₀ at white comment deep = length s - at
 
 -- after a turn's run: the place, the whitespace so far, and the invariant there
 abbrev P : tie.After-gap-run Inv-loop μ-loop → ℕ
@@ -31,10 +33,10 @@ N c = c .before .loop .white + (P c - c .before .loop .at)
 
 run-then : (c : tie.After-gap-run Inv-loop μ-loop)
     → (N c + c .before .loop .comment + c .before .before .before .args .from ≤ P c)
-    × Reached (c .before .before .before .args .s .now) (c .before .before .before .args .from) (P c) (N c) (c .before .loop .comment)
+    × Reached (c .before .before .before .args .s .now) (c .before .before .before .args .from) (P c) (N c) (c .before .loop .comment) (c .before .loop .deep)
 run-then c =
     let l = c .gap-run .ensures in
-    (omega arith, spaced _ _ _ _ _ _ l (c .before .loop .inv .1))
+    (omega arith, spaced _ _ _ _ _ _ _ l (c .before .loop .inv .1))
 
 -- the same, of a turn that sees a character, of one that passes and of one that fails
 abbrev ran : tie.After-known-told Inv-loop μ-loop → tie.After-gap-run Inv-loop μ-loop
@@ -64,14 +66,14 @@ here c = seen _ _ _ _ (sym (c .before .before .before .char-at .ensures) ∙ c .
 
 -- a turn that passes, with the place and the number of characters that it names, and where it leads
 abbrev To : tie.After-known-told3 Inv-loop μ-loop → ℕ
-To c = c .before .p .given .0 .0
+To c = c .before .what2 .given .0 .0
 
 abbrev M : tie.After-known-told3 Inv-loop μ-loop → ℕ
-M c = c .before .p .given .0 .1 .0
+M c = c .before .what2 .given .0 .1 .0
 
 turned : (c : tie.After-known-told3 Inv-loop μ-loop)
-    → gapTurn 0 (K (onward c)) (left (S (onward c)) (Q (onward c))) (P (ran (onward c))) (Q (onward c)) ≡ Pass (To c) (M c) (c .before .p .given .0 .1 .1 .0)
-turned c = sym (c .before .before .before .gap-turn .ensures) ∙ c .before .p .given .1
+    → gapTurn 0 (K (onward c)) (left (S (onward c)) (Q (onward c))) (P (ran (onward c))) (Q (onward c)) ≡ Pass (To c) (M c) (c .before .what2 .given .0 .1 .1 .0)
+turned c = sym (c .before .before .before .gap-turn .ensures .0) ∙ c .before .what2 .given .1
 
 far : (c : tie.After-known-told3 Inv-loop μ-loop) → (Q (onward c) + M c ≤ To c) × (To c ≤ length (S (onward c)))
 far c =
@@ -80,9 +82,9 @@ far c =
 
 -- and where a turn that fails does
 lost : (c : tie.After-known-told2 Inv-loop μ-loop)
-    → (Q (failed c) + c .before .r .given .0 .1 .1 .0 ≤ c .before .r .given .0 .1 .0) × (c .before .r .given .0 .1 .0 ≤ length (S (failed c)))
+    → (Q (failed c) + c .before .what .given .0 .1 .1 .0 ≤ c .before .what .given .0 .1 .0) × (c .before .what .given .0 .1 .0 ≤ length (S (failed c)))
 lost c =
-    let f = lands _ _ _ _ (gap-fail _ _ _ _ _ _ _ _ (sym (c .before .before .before .gap-turn .ensures) ∙ c .before .r .given .1)) in
+    let f = lands _ _ _ _ (gap-fail _ _ _ _ _ _ _ _ (sym (c .before .before .before .gap-turn .ensures .0) ∙ c .before .what .given .1)) in
     (f .gone, f .room (here (failed c) .room))
 
 loop-holds : tie.Need-loop-holds Inv-loop μ-loop
@@ -114,28 +116,29 @@ enum-told c = search needs
 
 returns : tie.Need-returns Inv-loop μ-loop
 returns c =
-    let t = walk-stop gapTurn gapLast (here (c .before .before .before)) 0 _ (sym (c .before .before .gap-turn .ensures) ∙ c .enum-told .given .1) in
-    told-past (run-then (ran (c .before .before .before)) .1) t
+    let e = sym (c .before .before .gap-turn .ensures .0) ∙ c .enum-told .given .1 in
+    let h = here (c .before .before .before) in
+    told-past (run-then (ran (c .before .before .before)) .1) (walk-stop gapTurn gapLast h 0 _ e) (depth-stop gapTurn h 0 _ e)
 
-enum-known-r : tie.Need-enum-known-r Inv-loop μ-loop
-enum-known-r c = search needs
-
-add-t17 : tie.Need-add-t17 Inv-loop μ-loop
-add-t17 c = omega (arith, run-then (ran (failed c)) .0, here (failed c))
-
-add-t18 : tie.Need-add-t18 Inv-loop μ-loop
-add-t18 c = omega (arith, run-then (ran (failed c)) .0, here (failed c))
+enum-known-what : tie.Need-enum-known-what Inv-loop μ-loop
+enum-known-what c = search needs
 
 add-t19 : tie.Need-add-t19 Inv-loop μ-loop
-add-t19 c = omega (arith, run-then (ran (failed c)) .0, here (failed c), lost c)
+add-t19 c = omega (arith, run-then (ran (failed c)) .0, here (failed c))
+
+add-t20 : tie.Need-add-t20 Inv-loop μ-loop
+add-t20 c = omega (arith, run-then (ran (failed c)) .0, here (failed c))
+
+add-t21 : tie.Need-add-t21 Inv-loop μ-loop
+add-t21 c = omega (arith, run-then (ran (failed c)) .0, here (failed c), lost c)
 
 returns-2 : tie.Need-returns-2 Inv-loop μ-loop
 returns-2 c =
-    let t = walk-fail gapTurn gapLast (here (failed c)) 0 _ (sym (c .before .before .before .gap-turn .ensures) ∙ c .before .r .given .1) in
+    let t = walk-fail gapTurn gapLast (here (failed c)) 0 _ (sym (c .before .before .before .gap-turn .ensures .0) ∙ c .before .what .given .1) in
     told-lost (run-then (ran (failed c)) .1) t
 
-enum-known-p : tie.Need-enum-known-p Inv-loop μ-loop
-enum-known-p c = search needs
+enum-known-what-2 : tie.Need-enum-known-what-2 Inv-loop μ-loop
+enum-known-what-2 c = search needs
 
 add-comment : tie.Need-add-comment Inv-loop μ-loop
 add-comment c = omega (arith, run-then (ran (onward (c .before))) .0, here (onward (c .before)))
@@ -143,14 +146,18 @@ add-comment c = omega (arith, run-then (ran (onward (c .before))) .0, here (onwa
 add-comment-2 : tie.Need-add-comment-2 Inv-loop μ-loop
 add-comment-2 c = omega (arith, run-then (ran (onward (c .before))) .0, here (onward (c .before)), far (c .before))
 
+deeper-requires : tie.Need-deeper-requires Inv-loop μ-loop
+deeper-requires c κs = tt
+
 loop-less : tie.Need-loop-less Inv-loop μ-loop
-loop-less c = omega (arith, ran (onward (c .before)) .gap-run .ensures, here (onward (c .before)), far (c .before))
+loop-less c = omega (arith, ran (onward (c .before .before)) .gap-run .ensures, here (onward (c .before .before)), far (c .before .before))
 
 loop-again : tie.Need-loop-again Inv-loop μ-loop
 loop-again c =
-    let h = here (onward (c .before)) in
-    let i = run-then (ran (onward (c .before))) in
-    (omega (arith, i .0, h, far (c .before)), passed-comment (i .1) h (turned (c .before)) (c .if1 .taken))
+    let h = here (onward (c .before .before)) in
+    let i = run-then (ran (onward (c .before .before))) in
+    let d = c .deeper .ensures ∙ ap (deeper (ran (onward (c .before .before)) .before .loop .deep)) (c .before .before .before .before .before .gap-turn .ensures .1) in
+    (omega (arith, i .0, h, far (c .before .before)), passed-comment (i .1) h (turned (c .before .before)) (c .before .if1 .taken) _ d)
 
 add-white-2 : tie.Need-add-white-2 Inv-loop μ-loop
 add-white-2 c = omega (arith, run-then (ran (onward (c .before))) .0, here (onward (c .before)))
@@ -169,8 +176,8 @@ enum-told-2 c = search needs
 
 returns-3 : tie.Need-returns-3 Inv-loop μ-loop
 returns-3 c =
-    let t = walk-end gapTurn gapLast (ended _ _ (sym (c .before .before .char-at .ensures) ∙ c .enum-told2 .given .1)) 0 _ in
-    told-past (run-then (c .before .before .before) .1) t
+    let e = ended _ _ (sym (c .before .before .char-at .ensures) ∙ c .enum-told2 .given .1) in
+    told-past (run-then (c .before .before .before) .1) (walk-end gapTurn gapLast e 0 _) (depth-end gapTurn e 0 _)
 
 pub apart-far-spec : {M : Type 1} → statement M
 apart-far-spec =
@@ -188,14 +195,15 @@ apart-far-spec =
     gap-turn-requires
     enum-told
     returns
-    enum-known-r
-    add-t17
-    add-t18
+    enum-known-what
     add-t19
+    add-t20
+    add-t21
     returns-2
-    enum-known-p
+    enum-known-what-2
     add-comment
     add-comment-2
+    deeper-requires
     loop-less
     loop-again
     add-white-2

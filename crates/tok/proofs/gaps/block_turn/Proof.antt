@@ -12,25 +12,25 @@ use Rattle.tok.proofs.gaps.block_turn.Tie as tie
 block-comment-requires : tie.Need-block-comment-requires
 block-comment-requires c κs = search needs
 
-enum-known-p : tie.Need-enum-known-p
-enum-known-p c = search needs
+enum-known-skip : tie.Need-enum-known-skip
+enum-known-skip c = search needs
 
-add-t11 : tie.Need-add-t11
-add-t11 c = omega (arith, sound-fits (c .before .before .before .before .before .args .s .now) (c .before .before .before .before .before .args .at) (sym (c .before .p .given .1) ∙ c .before .before .before .block-comment .ensures) (block-sound _ _ _))
+add-t13 : tie.Need-add-t13
+add-t13 c = omega (arith, sound-fits (c .before .before .before .before .before .args .s .now) (c .before .before .before .before .before .args .at) (sym (c .before .skip .given .1) ∙ c .before .before .before .block-comment .ensures .0) (block-sound _ _ _))
 
-enum-known-r : tie.Need-enum-known-r
-enum-known-r c = search needs
+enum-known-skip-2 : tie.Need-enum-known-skip-2
+enum-known-skip-2 c = search needs
 
-add-t12 : tie.Need-add-t12
-add-t12 c = omega (arith, sound-fits (c .before .before .before .before .before .args .s .now) (c .before .before .before .before .before .args .at) (sym (c .before .r .given .1) ∙ c .before .before .before .block-comment .ensures) (block-sound _ _ _))
+add-t15 : tie.Need-add-t15
+add-t15 c = omega (arith, sound-fits (c .before .before .before .before .before .args .s .now) (c .before .before .before .before .before .args .at) (sym (c .before .skip2 .given .1) ∙ c .before .before .before .block-comment .ensures .0) (block-sound _ _ _))
 
 returns : tie.Need-returns
-returns c = ap (λ (x : Skip). turnOf 0 (skipMore 1 x)) (sym (c .before .p .given .1) ∙ c .before .before .before .block-comment .ensures)
+returns c = (ap (λ (x : Skip). turnOf 0 (skipMore 1 x)) (sym (c .before .skip .given .1) ∙ c .before .before .before .block-comment .ensures .0), c .before .before .before .block-comment .ensures .1)
 
 returns-2 : tie.Need-returns-2
-returns-2 c = ap (λ (x : Skip). turnOf 0 (skipMore 1 x)) (sym (c .before .r .given .1) ∙ c .before .before .before .block-comment .ensures)
+returns-2 c = (ap (λ (x : Skip). turnOf 0 (skipMore 1 x)) (sym (c .before .skip2 .given .1) ∙ c .before .before .before .block-comment .ensures .0), c .before .before .before .block-comment .ensures .1)
 
 pub block-turn-spec : {M : Type 1} → statement M
 block-turn-spec =
     tie.close
-    (tie.spec block-comment-requires enum-known-p add-t11 enum-known-r add-t12 returns returns-2)
+    (tie.spec block-comment-requires enum-known-skip add-t13 enum-known-skip-2 add-t15 returns returns-2)

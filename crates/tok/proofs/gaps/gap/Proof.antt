@@ -1,9 +1,6 @@
 -- `tok::gaps::gap` meets its contract.
-use Prim.Native.Nat.{_+_, _-_}
-use mathlib.Core.Path.{_≡_, sym, _∙_}
-use native.Mathlib.Omega.{arith}
-use Rattle.reading.specs.Gaps.{gap}
-use Rattle.reading.specs.Steps.{gap-run}
+use mathlib.Core.Path.{sym}
+use Rattle.reading.specs.Steps.{gap-ends}
 use borrow.Author.Needs.{needs}
 use Rattle.tok.proofs.gaps.gap.Statement.{statement}
 use Rattle.tok.proofs.gaps.gap.Tie as tie
@@ -18,12 +15,11 @@ sub-t5 : tie.Need-sub-t5
 sub-t5 c = search needs
 
 returns : tie.Need-returns
-unfolding gap
 returns c =
-    let from = c .before .before .before .before .args .from in
-    let to = c .before .before .gap-run .result in
-    let q : 0 + (to - from) ≡ to - from = omega arith in
-    sym (c .before .is-over .ensures (c .if1 .taken) (to - from)) ∙ rw q at (gap-run (c .before .before .before .before .args .s .now) from to 0 (c .before .before .gap-run .ensures))
+    let a = c .before .before .before .before .args in
+    let h = c .before .is-over .ensures (c .if1 .taken) in
+    let e = gap-ends (a .s .now) (a .from) (c .before .before .gap-run .result) (c .before .before .gap-run .ensures) (h .0) (h .1) (h .2) in
+    (sym (e .0), sym (e .1))
 
 gap-far-requires : tie.Need-gap-far-requires
 gap-far-requires c κs = search needs

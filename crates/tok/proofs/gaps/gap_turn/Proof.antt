@@ -10,19 +10,34 @@ comment-turn-requires c κs = search needs
 
 returns : tie.Need-returns
 unfolding gapTurn
-returns c = search flags
+returns c =
+    let t = c .comment-turn .ensures .0 in
+    let d = c .comment-turn .ensures .1 in
+    (search flags, search flags)
 
 is-whitespace-requires : tie.Need-is-whitespace-requires
 is-whitespace-requires c κs = search needs
 
+flat-requires : tie.Need-flat-requires
+flat-requires c κs = search needs
+
 returns-2 : tie.Need-returns-2
 unfolding gapTurn
-returns-2 c = search flags
+returns-2 c =
+    let t = c .flat .ensures .0 in
+    let d = c .flat .ensures .1 in
+    (search flags, search flags)
+
+flat-requires-2 : tie.Need-flat-requires-2
+flat-requires-2 c κs = search needs
 
 returns-3 : tie.Need-returns-3
 unfolding gapTurn
-returns-3 c = search flags
+returns-3 c =
+    let t = c .flat2 .ensures .0 in
+    let d = c .flat2 .ensures .1 in
+    (search flags, search flags)
 
 pub gap-turn-spec : {M : Type 1} → statement M
 gap-turn-spec =
-    tie.close (tie.spec comment-turn-requires returns is-whitespace-requires returns-2 returns-3)
+    tie.close (tie.spec comment-turn-requires returns is-whitespace-requires flat-requires returns-2 flat-requires-2 returns-3)

@@ -1,8 +1,7 @@
 -- `tok::symbols::arrow_code` meets its contract.
-use mathlib.Core.Path.{ap, _∙_}
+use mathlib.Core.Path.{_∙_}
 use borrow.Author.Needs.{needs}
 use Rattle.reading.specs.Symbols.{arrowCode}
-use Rattle.reading.specs.Words.{codeToken}
 use Rattle.tok.proofs.symbols.arrow_code.Statement.{statement}
 use Rattle.tok.proofs.symbols.arrow_code.Tie as tie
 
@@ -14,7 +13,7 @@ code-token-requires c κs = search needs
 
 returns : tie.Need-returns
 unfolding arrowCode
-returns c = c .code-token .ensures ∙ ap (codeToken _ _ _) (c .before .code .ensures)
+returns c = c .code-token .ensures ∙ rw (c .before .code .ensures .0, c .before .code .ensures .1)
 
 pub arrow-code-spec : {M : Type 1} → statement M
 arrow-code-spec = tie.close (tie.spec code-requires code-token-requires returns)

@@ -1,0 +1,16 @@
+-- `run::read_numbers` meets its contract.
+use borrow.Author.Needs.{needs}
+use Rattle.run.proofs.read_numbers.Statement.{statement}
+use Rattle.run.proofs.read_numbers.Tie as tie
+
+run-groups-requires : tie.Need-run-groups-requires
+run-groups-requires c κs = search needs
+
+same-length : tie.Need-same-length
+same-length c = search needs
+
+returns : tie.Need-returns
+returns c = c .before .before .run-groups .ensures
+
+pub read-numbers-spec : {M : Type 1} → statement M
+read-numbers-spec = tie.close (tie.spec run-groups-requires same-length returns)

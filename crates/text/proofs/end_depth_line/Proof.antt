@@ -1,0 +1,15 @@
+-- `text::end_depth_line` meets its contract.
+use mathlib.Core.Path.{refl}
+use borrow.Author.Needs.{needs}
+use Rattle.text.specs.Bytes.{bytes, join}
+use Rattle.text.specs.Lines.{endDepthLine}
+use Rattle.text.specs.Pieces.{allBytes, phrase, phrases}
+use Rattle.text.proofs.end_depth_line.Statement.{statement}
+use Rattle.text.proofs.end_depth_line.Tie as tie
+
+returns : tie.Need-returns
+unfolding allBytes bytes join phrase phrases endDepthLine
+returns c = c .before .before .compose .ensures
+
+pub end-depth-line-spec : {M : Type 1} → statement M
+end-depth-line-spec = tie.close (tie.spec (λ c κs. refl) (λ c. search needs) returns)
