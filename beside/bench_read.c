@@ -19,7 +19,7 @@ int main(int argc, char **argv)
     (void)argv;
     while (length < SIZE && (n = read(0, text + length, SIZE - length)) > 0)
         length += (size_t)n;
-    teyk_read(text, length, 0, UINT64_MAX, records, TEYK_READ_RECORD * SIZE, answer, TEYK_READ_ANSWER);
+    teyk_read(text, length, TEYK_OLD_READING, 0, UINT64_MAX, records, TEYK_READ_RECORD * SIZE, answer, TEYK_READ_ANSWER);
     if (argc > 1) {
         for (uint64_t i = 0; i < TEYK_READ_RECORD * answer[2]; i++)
             printf("%" PRIu64 "%c", records[i], i % TEYK_READ_RECORD == TEYK_READ_RECORD - 1 ? '\n' : ' ');

@@ -49,7 +49,7 @@ static int deep(const uint8_t *text, size_t length, uint64_t code, uint64_t gap,
 {
     uint64_t answer[TEYK_READ_ANSWER], records[TEYK_READ_RECORD * 64];
     memset(records, 0, sizeof records);
-    return teyk_read(text, length, 3, UINT64_MAX, NUMBERS(records), NUMBERS(answer)) == code && answer[0] == code
+    return teyk_read(text, length, TEYK_OLD_READING, 3, UINT64_MAX, NUMBERS(records), NUMBERS(answer)) == code && answer[0] == code
         && records[5] == gap && records[6] == in_code && answer[4] == last && answer[5] == TEYK_NOT_TOLD;
 }
 
@@ -97,41 +97,86 @@ static void reads(void)
     memset(records, 77, sizeof records);
     const uint64_t old = records[0];
     answer[6] = 9;
-    EXPECT(teyk_read(BYTES("/**/a=>/*/**/*/ b"), 7, UINT64_MAX, NUMBERS(records), NUMBERS(answer)) == TEYK_END);
+    EXPECT(teyk_read(BYTES("/**/a=>/*/**/*/ b"), TEYK_OLD_READING, 7, UINT64_MAX, NUMBERS(records), NUMBERS(answer)) == TEYK_END);
     EXPECT(answer_is(answer, 0, 0, 2, 17, 0) && answer[6] == 9 && records[18] == old && records[25] == old);
     EXPECT(record_is(records, TEYK_KIND_ID, 11, 12, 11, 12, 1, 0) && record_is(records + 9, TEYK_KIND_EQUALS_GREATER_THAN_CODE, 12, 24, 14, 24, 0, 2));
-    EXPECT(teyk_read(BYTES("# /* /* */ */ "), 7, UINT64_MAX, NUMBERS(records), NUMBERS(answer)) == TEYK_END);
+    EXPECT(teyk_read(BYTES("# /* /* */ */ "), TEYK_OLD_READING, 7, UINT64_MAX, NUMBERS(records), NUMBERS(answer)) == TEYK_END);
     EXPECT(answer_is(answer, 0, 0, 1, 15, 2) && record_is(records, TEYK_KIND_HASH, 7, 8, 7, 7, 0, 0));
     /* the second record is as the call before left it */
     EXPECT(record_is(records + 9, TEYK_KIND_EQUALS_GREATER_THAN_CODE, 12, 24, 14, 24, 0, 2));
     /* room for two, and for one: eight numbers more are no record */
-    EXPECT(teyk_read(BYTES("a/**/b/*/**/*/c"), 0, UINT64_MAX, NUMBERS(records), NUMBERS(answer)) == TEYK_NO_ROOM);
+    EXPECT(teyk_read(BYTES("a/**/b/*/**/*/c"), TEYK_OLD_READING, 0, UINT64_MAX, NUMBERS(records), NUMBERS(answer)) == TEYK_NO_ROOM);
     EXPECT(answer_is(answer, 14, 14, 2, 6, 0) && record_is(records + 9, TEYK_KIND_ID, 5, 6, 5, 6, 1, 0) && records[18] == old && records[25] == old);
     memset(records, 77, sizeof records);
-    EXPECT(teyk_read(BYTES("a/**/b"), 0, UINT64_MAX, records, 17, NUMBERS(answer)) == TEYK_NO_ROOM && answer_is(answer, 14, 5, 1, 1, 0) && records[9] == old);
-    EXPECT(teyk_read(BYTES("a"), 0, UINT64_MAX, records, 8, NUMBERS(answer)) == TEYK_NO_ROOM && answer_is(answer, 14, 0, 0, 0, 0));
-    EXPECT(teyk_read(BYTES("/*/**/*/"), 0, UINT64_MAX, records, 0, NUMBERS(answer)) == TEYK_END && answer_is(answer, 0, 0, 0, 8, 2));
+    EXPECT(teyk_read(BYTES("a/**/b"), TEYK_OLD_READING, 0, UINT64_MAX, records, 17, NUMBERS(answer)) == TEYK_NO_ROOM && answer_is(answer, 14, 5, 1, 1, 0) && records[9] == old);
+    EXPECT(teyk_read(BYTES("a"), TEYK_OLD_READING, 0, UINT64_MAX, records, 8, NUMBERS(answer)) == TEYK_NO_ROOM && answer_is(answer, 14, 0, 0, 0, 0));
+    EXPECT(teyk_read(BYTES("/*/**/*/"), TEYK_OLD_READING, 0, UINT64_MAX, records, 0, NUMBERS(answer)) == TEYK_END && answer_is(answer, 0, 0, 0, 8, 2));
     /* the work limit: one short of the end, and just enough; with 14 too, 15 */
-    EXPECT(teyk_read(BYTES("a/**/"), 7, 4, NUMBERS(records), NUMBERS(answer)) == TEYK_WORK_LIMIT && answer_is(answer, 15, 8, 1, 1, 0));
-    EXPECT(teyk_read(BYTES("a/**/"), 7, 5, NUMBERS(records), NUMBERS(answer)) == TEYK_END && answer_is(answer, 0, 0, 1, 5, 1));
-    EXPECT(teyk_read(BYTES("a/**/b"), 7, 5, records, 17, NUMBERS(answer)) == TEYK_WORK_LIMIT && answer_is(answer, 15, 8, 1, 1, 0));
+    EXPECT(teyk_read(BYTES("a/**/"), TEYK_OLD_READING, 7, 4, NUMBERS(records), NUMBERS(answer)) == TEYK_WORK_LIMIT && answer_is(answer, 15, 8, 1, 1, 0));
+    EXPECT(teyk_read(BYTES("a/**/"), TEYK_OLD_READING, 7, 5, NUMBERS(records), NUMBERS(answer)) == TEYK_END && answer_is(answer, 0, 0, 1, 5, 1));
+    EXPECT(teyk_read(BYTES("a/**/b"), TEYK_OLD_READING, 7, 5, records, 17, NUMBERS(answer)) == TEYK_WORK_LIMIT && answer_is(answer, 15, 8, 1, 1, 0));
     /* an error, the checks, a short answer */
-    EXPECT(teyk_read(BYTES("a/**/."), 7, UINT64_MAX, NUMBERS(records), NUMBERS(answer)) == TEYK_HALF_SYMBOL && answer_is(answer, 22, 12, 1, 6, 0));
-    EXPECT(teyk_read(BYTES("a/* /**/"), 7, UINT64_MAX, NUMBERS(records), NUMBERS(answer)) == TEYK_UNTERMINATED_BLOCK_COMMENT && answer_is(answer, 10, 8, 1, 8, 0));
+    EXPECT(teyk_read(BYTES("a/**/."), TEYK_OLD_READING, 7, UINT64_MAX, NUMBERS(records), NUMBERS(answer)) == TEYK_HALF_SYMBOL && answer_is(answer, 22, 12, 1, 6, 0));
+    EXPECT(teyk_read(BYTES("a/* /**/"), TEYK_OLD_READING, 7, UINT64_MAX, NUMBERS(records), NUMBERS(answer)) == TEYK_UNTERMINATED_BLOCK_COMMENT && answer_is(answer, 10, 8, 1, 8, 0));
     memset(records, 77, sizeof records);
-    EXPECT(teyk_read(BYTES("/**/a\377"), 5, 0, NUMBERS(records), NUMBERS(answer)) == TEYK_NOT_UTF8 && answer_is(answer, 11, 10, 0, 0, 0));
-    EXPECT(teyk_read(BYTES("\377"), UINT64_MAX, 0, NUMBERS(records), NUMBERS(answer)) == TEYK_SHIFT_TOO_LARGE && answer_is(answer, 13, 0, 0, 0, 0));
+    EXPECT(teyk_read(BYTES("/**/a\377"), TEYK_OLD_READING, 5, 0, NUMBERS(records), NUMBERS(answer)) == TEYK_NOT_UTF8 && answer_is(answer, 11, 10, 0, 0, 0));
+    EXPECT(teyk_read(BYTES("\377"), TEYK_OLD_READING, UINT64_MAX, 0, NUMBERS(records), NUMBERS(answer)) == TEYK_SHIFT_TOO_LARGE && answer_is(answer, 13, 0, 0, 0, 0));
     EXPECT(text != MAP_FAILED);
     if (text != MAP_FAILED) {
-        EXPECT(teyk_read(text, length, UINT64_MAX, 0, NUMBERS(records), NUMBERS(answer)) == TEYK_TOO_LONG && answer_is(answer, 12, 0, 0, 0, 0));
+        EXPECT(teyk_read(text, length, TEYK_OLD_READING, UINT64_MAX, 0, NUMBERS(records), NUMBERS(answer)) == TEYK_TOO_LONG && answer_is(answer, 12, 0, 0, 0, 0));
         munmap(text, length);
     }
     memset(answer, 77, sizeof answer);
-    EXPECT(teyk_read(BYTES("a"), 0, 9, NUMBERS(records), answer, 5) == TEYK_NO_ROOM && teyk_read(BYTES("\377"), 0, 9, NUMBERS(records), answer, 0) == TEYK_NO_ROOM);
+    EXPECT(teyk_read(BYTES("a"), TEYK_OLD_READING, 0, 9, NUMBERS(records), answer, 5) == TEYK_NO_ROOM && teyk_read(BYTES("\377"), TEYK_OLD_READING, 0, 9, NUMBERS(records), answer, 0) == TEYK_NO_ROOM);
     for (size_t i = 0; i < TEYK_READ_ANSWER + 1; i++)
         EXPECT(answer[i] == old);
     for (size_t i = 0; i < 2 * TEYK_READ_RECORD + 8; i++)
         EXPECT(records[i] == old);
+}
+
+/* one text in one reading, from shift 7, with room for all: how it ended, and at most two of its records (kind, start, end) */
+static int in_reading(const uint8_t *text, size_t length, uint64_t reading, uint64_t code, uint64_t place, uint64_t advances, uint64_t count, const uint64_t *six)
+{
+    uint64_t answer[TEYK_READ_ANSWER], records[TEYK_READ_RECORD * 16];
+    if (teyk_read(text, length, reading, 7, UINT64_MAX, NUMBERS(records), NUMBERS(answer)) != code || !answer_is(answer, code, place, count, advances, 0))
+        return 0;
+    for (uint64_t i = 0; i < count && i < 2; i++)
+        if (memcmp(records + TEYK_READ_RECORD * i, six + 3 * i, 3 * sizeof *six))
+            return 0;
+    return 1;
+}
+
+#define IN(text, reading, code, place, advances, count, ...) in_reading(BYTES(text), reading, code, place, advances, count, (const uint64_t[6]){__VA_ARGS__})
+
+/* the three places where the readings differ, and 24 */
+static void readings(void)
+{
+    const uint64_t o = TEYK_OLD_READING, k = TEYK_KEPT_READING;
+    EXPECT(IN("#![a]xb", o, 0, 0, 7, 2, 53, 7, 12, 15, 13, 14) && IN("#![a]xb", k, 0, 0, 7, 2, 53, 7, 12, 15, 12, 14));
+    EXPECT(IN("#![a]//x", o, 22, 13, 7, 1, 53, 7, 12) && IN("#![a]//x", k, 0, 0, 8, 1, 53, 7, 12) && IN("#![a]", k, 0, 0, 5, 1, 53, 7, 12));
+    EXPECT(IN("=>r#\"a\"b\"#;", o, 5, 15, 11, 0, 0) && IN("=>r#\"a\"b\"#;", k, 0, 0, 11, 2, 30, 7, 17, 48, 17, 18));
+    EXPECT(IN("=>r#\"a\";", o, 0, 0, 8, 2, 30, 7, 14, 48, 14, 15) && IN("=>r#\"a\";", k, 5, 9, 8, 0, 0));
+    EXPECT(IN("=>r#", o, 5, 10, 4, 0, 0) && IN("=>r#", k, 5, 9, 4, 0, 0) && IN("=>r#1", o, 9, 11, 4, 0, 0) && IN("=>r#1", k, 9, 11, 4, 0, 0));
+    EXPECT(IN("=>'a'", o, 6, 9, 5, 0, 0) && IN("=>'a'", k, 0, 0, 5, 1, 30, 7, 12) && IN("=>''", k, 0, 0, 4, 1, 30, 7, 11) && IN("=>'''", k, 0, 0, 5, 1, 30, 7, 12));
+    EXPECT(IN("=>('a", o, 6, 10, 5, 0, 0) && IN("=>('a", k, 8, 7, 5, 0, 0) && IN("=>'", k, 6, 9, 3, 0, 0));
+    EXPECT(IN("=>'\\", k, 6, 9, 4, 0, 0) && IN("=>'\\'", k, 6, 9, 5, 0, 0) && IN("=>'\\''", k, 0, 0, 6, 1, 30, 7, 13));
+    /* any other choice: after a short answer, before 12, 13 and 11; no record is written */
+    uint64_t answer[TEYK_READ_ANSWER], records[TEYK_READ_RECORD];
+    const size_t length = (size_t)TEYK_TEXT_LIMIT + 1;
+    uint8_t *text = mmap(NULL, length, PROT_READ | PROT_WRITE, MAP_PRIVATE | MAP_ANONYMOUS | MAP_NORESERVE, -1, 0);
+    const uint64_t others[] = {2, 3, 24, (uint64_t)1 << 32, ((uint64_t)1 << 32) + 1, UINT64_MAX};
+    memset(records, 77, sizeof records);
+    const uint64_t old = records[0];
+    EXPECT(text != MAP_FAILED);
+    for (size_t i = 0; text != MAP_FAILED && i < sizeof others / sizeof *others; i++) {
+        memset(answer, 77, sizeof answer);
+        EXPECT(teyk_read(text, length, others[i], UINT64_MAX, 0, NUMBERS(records), answer, 5) == TEYK_NO_ROOM && answer[0] == old);
+        EXPECT(teyk_read(text, length, others[i], UINT64_MAX, 0, NUMBERS(records), NUMBERS(answer)) == TEYK_UNKNOWN_READING && answer_is(answer, 24, 0, 0, 0, 0));
+        EXPECT(teyk_read(BYTES("a"), others[i], 0, 9, NUMBERS(records), NUMBERS(answer)) == TEYK_UNKNOWN_READING && answer_is(answer, 24, 0, 0, 0, 0));
+        EXPECT(teyk_read(BYTES("\377"), others[i], 0, 9, NUMBERS(records), NUMBERS(answer)) == TEYK_UNKNOWN_READING && records[0] == old);
+    }
+    if (text != MAP_FAILED)
+        munmap(text, length);
 }
 
 /* a run with room for one record, taken up again to its end, and what each refusal leaves */
@@ -579,7 +624,7 @@ static uint64_t read_compare(uint64_t *depths, const uint8_t *text, size_t lengt
     memset(nine, 77, (TEYK_READ_RECORD * room + 8) * sizeof *nine);
     memset(read, 77, sizeof read);
     const uint64_t old = read[TEYK_READ_ANSWER], *last = depths + 2 * ran[2];
-    if (teyk_read(text, length, shift, limit, nine, TEYK_READ_RECORD * room + 8, NUMBERS(read)) != ran[0] || memcmp(read, ran, sizeof ran))
+    if (teyk_read(text, length, TEYK_OLD_READING, shift, limit, nine, TEYK_READ_RECORD * room + 8, NUMBERS(read)) != ran[0] || memcmp(read, ran, sizeof ran))
         differs("teyk_read's answer", text, length, read[0], ran[0]);
     if (read[4] != *last || read[5] != TEYK_NOT_TOLD || read[6] != old)
         differs("the last gap's depth", text, length, read[4], *last);
@@ -722,10 +767,175 @@ static void sheet_compare(const uint8_t *text, size_t length)
         full(text, length);
 }
 
+/* ---- the kept reading once more, by the request's words alone: single calls of the old reading, and a reader of code of its own */
+struct stop {
+    uint64_t code;
+    size_t place; /* of the refusal, or where the code ends */
+};
+
+static struct stop stop(uint64_t code, size_t place)
+{
+    return (struct stop){code, place};
+}
+
+/* what a quote in code covers: a closed literal, or one character, may end the text */
+static struct stop kept_quote(const uint8_t *text, size_t o, size_t to)
+{
+    size_t at = o + 1;
+    if (at >= to)
+        return stop(TEYK_UNTERMINATED_CHARACTER_LITERAL, o);
+    if (text[at] != '\\') {
+        at += width(text[at]);
+        return stop(0, at + (at_most(text, at, to) == '\''));
+    }
+    at++;
+    if (at < to)
+        at += width(text[at]);
+    while (at < to && text[at] != '\'')
+        at++;
+    return at < to ? stop(0, at + 1) : stop(TEYK_UNTERMINATED_CHARACTER_LITERAL, o);
+}
+
+/* a letter r with a hash after it: a regex with as many hashes after its closing quote, or a word */
+static struct stop kept_hashes(const uint8_t *text, size_t o, size_t to)
+{
+    size_t hashes = 0, at = o + 1;
+    for (; at_most(text, at, to) == '#'; at++)
+        hashes++;
+    if (at >= to)
+        return stop(TEYK_UNTERMINATED_STRING_LITERAL, o);
+    if (text[at] != '"') {
+        size_t from = at;
+        while (in_word(at_most(text, at, to)))
+            at++;
+        return at == from || (text[from] >= '0' && text[from] <= '9') ? stop(TEYK_EXPECTED_STRING_LITERAL, from) : stop(0, at);
+    }
+    for (at++; at < to; at++) {
+        size_t after = 0;
+        while (text[at] == '"' && after < hashes && at_most(text, at + 1 + after, to) == '#')
+            after++;
+        if (text[at] == '"' && after == hashes)
+            return stop(0, at + 1 + hashes);
+    }
+    return stop(TEYK_UNTERMINATED_STRING_LITERAL, o);
+}
+
+/* the block comment at a place */
+static struct stop block_end(const uint8_t *text, size_t o, size_t to)
+{
+    size_t open = 0, at = o;
+    do {
+        int opens = pair(text, at, to, "/*"), closes = pair(text, at, to, "*/");
+        open = open + opens - closes;
+        at += opens || closes ? 2 : 1;
+    } while (open && at < to);
+    return open ? stop(TEYK_UNTERMINATED_BLOCK_COMMENT, o) : stop(0, at);
+}
+
+/* what code passes at once from a place */
+static struct stop kept_step(const uint8_t *text, size_t at, size_t to)
+{
+    if (text[at] == '\'')
+        return kept_quote(text, at, to);
+    if (text[at] == '"')
+        return string_end(text, at, to) <= to ? stop(0, string_end(text, at, to)) : stop(TEYK_UNTERMINATED_STRING_LITERAL, at);
+    if (pair(text, at, to, "//"))
+        return stop(0, line_end(text, at, to));
+    if (pair(text, at, to, "/*"))
+        return block_end(text, at, to);
+    return pair(text, at, to, "r#") ? kept_hashes(text, at, to) : stop(0, at + 1);
+}
+
+/* the code from a place, of a token that starts at `start` */
+static struct stop kept_code(const uint8_t *text, size_t at, size_t to, size_t start)
+{
+    size_t open = 0;
+    while (at < to) {
+        int c = text[at];
+        if (!open && strchr(",;)]}", c))
+            return stop(0, at);
+        open = open + (c == '(' || c == '[' || c == '{') - (c == ')' || c == ']' || c == '}');
+        struct stop step = kept_step(text, at, to);
+        if (step.code)
+            return step;
+        at = step.place;
+    }
+    return open ? stop(TEYK_UNTERMINATED_CODE, start) : stop(0, at);
+}
+
+/* where the token after a gap starts; of the white space beyond ASCII only U+3000 is asked about */
+static size_t after_gap(const uint8_t *text, size_t at, size_t to)
+{
+    for (;;) {
+        if (at_most(text, at, to) == ' ' || at_most(text, at, to) == '\n')
+            at++;
+        else if (at + 3 <= to && !memcmp(text + at, "\343\200\200", 3))
+            at += 3;
+        else if (pair(text, at, to, "//"))
+            at = line_end(text, at, to);
+        else if (pair(text, at, to, "/*"))
+            block_depth(text, &at, to);
+        else
+            return at;
+    }
+}
+
+/* where the code of the token at a place starts, and its kind; 0 where it takes none */
+static size_t code_start(const uint8_t *text, size_t o, size_t to, uint64_t *kind)
+{
+    *kind = TEYK_KIND_USE;
+    if (pair(text, o, to, "us") && at_most(text, o + 2, to) == 'e' && !in_word(at_most(text, o + 3, to)))
+        return o + 3;
+    *kind = at_most(text, o + 2, to) == '?' ? TEYK_KIND_EQUALS_GREATER_THAN_QUESTION_CODE : TEYK_KIND_EQUALS_GREATER_THAN_CODE;
+    return pair(text, o, to, "=>") && o + 2 < to && text[o + 2] != '@' ? o + 2 + (text[o + 2] == '?') : 0;
+}
+
+static uint64_t kept_texts, kept_other;
+
+/* a call from a place: the record, or how it ended. All but code is the old reading's, by one call of it */
+static struct stop kept_call(const uint8_t *text, size_t length, size_t at, uint64_t *record, int *got)
+{
+    uint64_t state[TEYK_STATE] = {at, 0, 0, 0}, answer[TEYK_RUN_ANSWER], kind;
+    size_t o = after_gap(text, at, length), from = o < length ? code_start(text, o, length, &kind) : 0;
+    if (!from) {
+        teyk_resume(text, length, 0, UINT64_MAX, NUMBERS(state), record, TEYK_RECORD, NUMBERS(answer));
+        *got = answer[2] == 1;
+        return *got ? stop(0, record[2]) : stop(answer[0], answer[1]);
+    }
+    struct stop end = kept_code(text, from, length, o);
+    const uint64_t want[TEYK_RECORD] = {kind, o, end.place, from, end.place};
+    memcpy(record, want, sizeof want);
+    *got = !end.code;
+    return end;
+}
+
+static void kept_compare(const uint8_t *text, size_t length)
+{
+    uint64_t nine[TEYK_READ_RECORD * LONGEST], read[TEYK_READ_ANSWER], five[TEYK_RECORD * LONGEST], old[TEYK_RUN_ANSWER], record[TEYK_RECORD], count = 0;
+    struct stop end = stop(0, 0);
+    int got = 1, other = 0;
+    teyk_read(text, length, TEYK_KEPT_READING, 0, UINT64_MAX, NUMBERS(nine), NUMBERS(read));
+    teyk_run(text, length, 0, UINT64_MAX, NUMBERS(five), NUMBERS(old));
+    for (; end = kept_call(text, length, end.place, record, &got), got; count++) {
+        if (count >= read[2] || memcmp(nine + TEYK_READ_RECORD * count, record, sizeof record)) {
+            differs("a record of the kept reading", text, length, count, record[0]);
+            return;
+        }
+        other |= count >= old[2] || memcmp(five + TEYK_RECORD * count, record, sizeof record);
+    }
+    if (read[0] != end.code || read[1] != end.place || read[2] != count)
+        differs("the kept reading's answer", text, length, read[0], end.code);
+    if (!end.code && !memchr(text, '#', length) && read[3] != counted(text, 0, length))
+        differs("the kept reading's advances", text, length, read[3], length);
+    kept_texts++;
+    kept_other += other || old[0] != end.code || old[1] != end.place || old[2] != count;
+}
+
 static void sheet_compare_all(const char *const *alphabet, size_t letters, uint8_t *text, size_t length, int more)
 {
     sheet_compare(text, length);
     read_compares(text, length);
+    kept_compare(text, length);
     for (size_t i = 0; more && i < letters; i++) {
         memcpy(text + length, alphabet[i], strlen(alphabet[i]));
         sheet_compare_all(alphabet, letters, text, length + strlen(alphabet[i]), more - 1);
@@ -733,7 +943,7 @@ static void sheet_compare_all(const char *const *alphabet, size_t letters, uint8
 }
 
 /* texts of all kinds, and longer ones of what comments are made of: the shortest that are nested have eight characters. Then marks of comments with all
- * that covers in code, and whole comments before, in and after all that may hold one. teyk_read reads them all too */
+ * that covers in code, and whole comments before, in and after all that may hold one. teyk_read reads them all too, in both readings */
 static void sheets_compared(void)
 {
     static const char *const all[] = {"a", " ", "\n", "/", "*", "#", "!", "[", "]", "\303\251", "\343\200\200"}, *const comments[] = {"/", "*", "\n"};
@@ -751,6 +961,8 @@ static void sheets_compared(void)
     EXPECT(taken_texts == 177156 + 29524 + 271453 + 346201 && read_texts == taken_texts && full_sheets == 805);
     printf("depths: %" PRIu64 " texts, each read three times: %" PRIu64 " have depth 2 or more in a gap (at most %" PRIu64 "), %" PRIu64 " in code (at most %" PRIu64
            "), %" PRIu64 " a comment that is not closed\n", read_texts, deep_gaps, deepest_gap, deep_codes, deepest_code, unclosed);
+    printf("kept reading: %" PRIu64 " texts, %" PRIu64 " of them answered otherwise than in the old one\n", kept_texts, kept_other);
+    EXPECT(kept_texts == read_texts && kept_other == 42936);
     EXPECT(deep_gaps == 71332 && deep_codes == 12470 && unclosed == 116272 && deepest_gap == 4 && deepest_code == 4 && ended + tallied == taken_texts);
 }
 
@@ -829,6 +1041,7 @@ int main(void)
     runs();
     depths();
     reads();
+    readings();
     resumes();
     names();
     expansions();

@@ -46,7 +46,7 @@ static void call(void)
     else if (which == 8)
         teyk_sheet_take(text, length, sheet, TEYK_SHEET, answer, 4);
     else if (which == 9)
-        teyk_read(text, length, 0, UINT64_MAX, records, TEYK_READ_RECORD * LONGEST, answer, TEYK_READ_ANSWER);
+        teyk_read(text, length, TEYK_OLD_READING, 0, UINT64_MAX, records, TEYK_READ_RECORD * LONGEST, answer, TEYK_READ_ANSWER);
     for (uint64_t n = 0; which > 9 && n <= TEYK_KINDS; n++)
         (which == 10 ? teyk_name_of_kind : teyk_name_of_code)(n, text, TEYK_NAME_MOST, answer, 4);
 }

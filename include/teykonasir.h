@@ -15,8 +15,8 @@
  *   - Nothing else is written than what is said here.
  *   - Threads: there is no state but what is lent. Every function may be called from any number of threads at once, as long as no slice
  *     that one call writes is used by another.
- *   - Stack: no function calls itself. The frames of the deepest chain of calls in the archives' code take 2,656 bytes together, those of
- *     teyk_sheet_take 3,216, and 128 below the last of them may be used; 1,808 and 2,336 were seen used on a painted stack (both by
+ *   - Stack: no function calls itself. The frames of the deepest chain of calls in the archives' code take 2,720 bytes together, those of
+ *     teyk_sheet_take 3,248, and 128 below the last of them may be used; 1,840 and 2,336 were seen used on a painted stack (both by
  *     beside/stack). Where the dynamic loader binds memcpy or memset only at its first call, that call takes some 3,200 more.
  *   - Words are Unicode 15.0.0's: XID_Start, XID_Continue and White_Space.
  */
@@ -30,13 +30,13 @@
 extern "C" {
 #endif
 
-#define TEYK_VERSION "4.4.0"
+#define TEYK_VERSION "4.5.0"
 #define TEYK_VERSION_MAJOR 4
-#define TEYK_VERSION_MINOR 4
+#define TEYK_VERSION_MINOR 5
 #define TEYK_VERSION_PATCH 0
 
 /* The codes. 1 to 10 are LALRPOP's own. Its 1 is answered as 22 or 23 since version 4.3.0, at the same place: who wants LALRPOP's code takes both for 1.
- * No text is answered 1, nor 24 to 29 yet; only teyk_resume repeats whatever code a caller puts into its state as `done`. */
+ * No text is answered 1, nor 25 to 29 yet; only teyk_resume repeats whatever code a caller puts into its state as `done`. */
 enum teyk_code {
     TEYK_END = 0, /* nothing is refused; of a run: the end of the text */
     TEYK_UNRECOGNIZED_TOKEN = 1, /* of no text: it is 22 or 23 */
@@ -62,7 +62,7 @@ enum teyk_code {
     TEYK_SHEET_FULL = 21, /* a sheet that has taken 1,024 texts */
     TEYK_HALF_SYMBOL = 22, /* half a symbol: a lone `.` `~` `-` `/` or `@`, or `=>@` with neither L nor R after it */
     TEYK_STRAY_CHARACTER = 23, /* a character that starts nothing */
-    TEYK_UNKNOWN_READING = 24,
+    TEYK_UNKNOWN_READING = 24, /* teyk_read: a reading that is neither 0 nor 1 */
     TEYK_TOO_DEEP = 25,
     TEYK_TEXT_MISMATCH = 26,
     TEYK_CHANGE_LIST_FULL = 27,
@@ -139,6 +139,10 @@ enum teyk_kind {
 
 /* How many numbers a record of teyk_read has: those five, depth of the gap before it, depth of its code, and two that are not told yet. */
 #define TEYK_READ_RECORD 9
+
+/* The readings of teyk_read: LALRPOP's, which is teyk_run's too, and the one that keeps the letter after an attribute. */
+#define TEYK_OLD_READING 0
+#define TEYK_KEPT_READING 1
 
 /* A number that is not told. */
 #define TEYK_NOT_TOLD UINT64_MAX
@@ -223,22 +227,30 @@ uint64_t teyk_run(const uint8_t *text, size_t text_len, uint64_t shift, uint64_t
 uint64_t teyk_resume(const uint8_t *text, size_t text_len, uint64_t shift, uint64_t limit, uint64_t *state, size_t state_len,
                      uint64_t *records, size_t records_len, uint64_t *answer, size_t answer_len);
 
-/* Reads a text as teyk_run does, and tells how deep the block comments before and in each token go.
+/* Reads a text as teyk_run does, or in the kept reading, and tells how deep the block comments before and in each token go.
+ *
+ * `reading` is TEYK_OLD_READING, which is teyk_run's, or TEYK_KEPT_READING, which keeps the letter. The kept one differs in three places, and in nothing else:
+ *   - after an attribute no character is dropped, so that each character is in a token or in a gap
+ *   - a regex in code, `r` with hashes and a quote, is closed by a quote and as many hashes as it has, and its 5 is placed at its `r` (the old reading
+ *     wants one hash fewer, and places 5 at the first hash)
+ *   - in code a quoted literal that is closed, or a quote and one character, may end the text (the old reading refuses both with 6). A lone last quote, and an
+ *     escaped literal that is not closed, are 6 in both
  *
  * Each token becomes a record of nine numbers in `records`: the five of teyk_run, the depth of the gap before it, the depth of its code, and two that are
  * TEYK_NOT_TOLD, since no version tells them yet. The room is records_len / 9 records; numbers beyond the told number of records are not written. A
  * records_len of 9 x text_len always suffices. `shift` and `limit` are those of teyk_run.
  *
  * The depth of a block comment is how many are open at once, at most: 1 with no other inside, 2 with two inside that stand side by side. A gap is the
- * whitespace and the comments before a token, or after the last one; the character dropped after an attribute is in none. Code is the payload of the kinds 13,
+ * whitespace and the comments before a token, or after the last one; the character that the old reading drops after an attribute is in none. Code is the payload of the kinds 13,
  * 30 and 31; every other kind has 0 for it. The depth of a gap, and of code, is the greatest of its block comments', 0 without one. A comment's mark is none in
  * a line comment, nor in a string, a regex or a quote that code passes, nor in a token without code. In a block comment every mark counts, after `//` and in
  * quotes too.
  *
  * answer: code, place, number of records, advances, depth of the last gap, and TEYK_NOT_TOLD, since no version tells that number yet. The last gap's depth
- * is 0 unless the code is 0. The result is the code. The first four numbers are those that teyk_run answers with the same text, shift, limit and room; the
- * tests and their order are the same. With an `answer` of fewer than six numbers the result is 14, and nothing is written. */
-uint64_t teyk_read(const uint8_t *text, size_t text_len, uint64_t shift, uint64_t limit, uint64_t *records, size_t records_len,
+ * is 0 unless the code is 0. The result is the code. In the old reading the first four numbers are those that teyk_run answers with the same text, shift, limit and
+ * room; the tests and their order are the same in both. With an `answer` of fewer than six numbers the result is 14, and nothing is written. Then any other
+ * `reading` is refused, before the text is looked at: 24, with place, records, advances and depth 0, and no record is written. */
+uint64_t teyk_read(const uint8_t *text, size_t text_len, uint64_t reading, uint64_t shift, uint64_t limit, uint64_t *records, size_t records_len,
                    uint64_t *answer, size_t answer_len);
 
 /* Expands the escapes of a string literal's payload: \\ \" \n \r \t \0 \xHL (H octal, L hexadecimal).

@@ -33,7 +33,7 @@ pub mod tok;
 pub use expand::{expand, expand_into, place, place_at};
 pub use ltk::{ltk_length, ltk_read, ltk_read_into, ltk_write, ltk_write_into};
 pub use names::{Code, Kind};
-pub use read::{read, read_to_vec, DeepRan, DeepRecord};
+pub use read::{read, read_to_vec, DeepRan, DeepRecord, Reading};
 pub use record::{Ran, Record, Refusal, State};
 pub use run::{most_advances, most_records, resume, run, run_to_vec, MOST_BYTES};
 pub use sheet::{Sheet, Taken, SHEET_NUMBERS, SHEET_TEXTS};

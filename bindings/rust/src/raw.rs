@@ -26,6 +26,7 @@ extern "C" {
     pub fn teyk_read(
         text: *const u8,
         text_len: usize,
+        reading: u64,
         shift: u64,
         limit: u64,
         records: *mut u64,

@@ -3,7 +3,7 @@
 use std::path::Path;
 use std::str::from_utf8;
 use teykonasir::tok::{Tok, Tokenizer};
-use teykonasir::{expand, expand_into, read, read_to_vec, resume, run, run_to_vec, Code, DeepRecord, Kind, Ran, Record, Refusal, State};
+use teykonasir::{expand, expand_into, read, read_to_vec, resume, run, run_to_vec, Code, DeepRecord, Kind, Ran, Reading, Record, Refusal, State};
 
 struct Reader<'a>(&'a [u8]);
 
@@ -85,11 +85,11 @@ fn by_vec(case: &Text) {
 /// With depths, into a slice that has room for one more, and into a list: the records are the same.
 fn by_depths(case: &Text) {
     let (mut slice, mut list) = (vec![DeepRecord::default(); case.records.len() + 1], vec![]);
-    let deep = read(case.text, case.shift, u64::MAX, &mut slice);
+    let deep = read(case.text, Reading::Old, case.shift, u64::MAX, &mut slice);
     assert_eq!((mapped(deep.ran), deep.last_depth.is_some()), (case.ran, case.ran.how.is_ok()));
     assert_eq!(slice.pop(), Some(DeepRecord::default()));
     assert!(slice.iter().map(|r| &r.record).eq(&case.records));
-    assert_eq!(read_to_vec(case.text, case.shift, u64::MAX, &mut list), deep);
+    assert_eq!(read_to_vec(case.text, Reading::Old, case.shift, u64::MAX, &mut list), deep);
     assert_eq!(list, slice);
 }
 

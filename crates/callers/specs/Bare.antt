@@ -10,6 +10,7 @@ use Rattle.record.specs.Records.{tokenOf}
 use Rattle.record.specs.declared.Code.{Code}
 use Rattle.record.specs.declared.Kind.{Kind}
 use Rattle.record.specs.declared.Kind.the-variants.{StringLiteral}
+use Rattle.record.specs.declared.Reading.{Reading}
 use Rattle.record.specs.declared.Token.{Token}
 use Rattle.scan.specs.Until.{left}
 use Rattle.reading.specs.Next.{next}
@@ -45,9 +46,9 @@ unfolding among
 string-has = refl
 
 -- ---- of a call of the reading
-call-bare : (cs : List ℕ) (at : ℕ) (t : Token) → next cs at .what ≡ Got t → Bare t
-call-bare cs at t e =
-    let h = next-says Bare (λ (c : Code). Unit {0}) (λ kind o p h. record { from = λ _. refl; to = λ _. refl })
+call-bare : (rd : Reading) (cs : List ℕ) (at : ℕ) (t : Token) → next rd cs at .what ≡ Got t → Bare t
+call-bare rd cs at t e =
+    let h = next-says rd Bare (λ (c : Code). Unit {0}) (λ kind o p h. record { from = λ _. refl; to = λ _. refl })
     (λ kind o p from to k s. has kind o p from to k) tt tt tt tt tt tt tt tt (λ o p from to. has StringLiteral o p from to string-has) (λ g d t b. record { from = b .from; to = b .to }) cs at in
     let w : SaysIn Bare (λ (c : Code). Unit {0}) (Got t) = rw e at (h .is) in
     w
@@ -55,15 +56,15 @@ call-bare cs at t e =
 shift-bare : (shift : ℕ) (t : Token) → Bare t → Bare (shiftToken shift t)
 shift-bare shift t b = record { from = λ h. ap (λ (n : ℕ). n + shift) (b .from h); to = λ h. ap (λ (n : ℕ). n + shift) (b .to h) }
 
-all-bare : (s : List ℕ) (shift at : ℕ) (ts : List Token) → Called s shift at ts → AllBare ts
-all-bare s shift at [] c = tt
-all-bare s shift at (x ∷ ts) c =
+all-bare : (rd : Reading) (s : List ℕ) (shift at : ℕ) (ts : List Token) → Called rd s shift at ts → AllBare ts
+all-bare rd s shift at [] c = tt
+all-bare rd s shift at (x ∷ ts) c =
     let d = c .0 in
-    (rw (d .shifted) (shift-bare shift (d .token) (call-bare (left s at) at (d .token) (d .got))), all-bare s shift (next (left s at) at .at) ts (c .1))
+    (rw (d .shifted) (shift-bare shift (d .token) (call-bare rd (left s at) at (d .token) (d .got))), all-bare rd s shift (next rd (left s at) at .at) ts (c .1))
 
 -- ---- THE THEOREM, of the records that a run holds, and of the one at an index
 pub bare : (s : List ℕ) (shift limit : ℕ) (t : Tokenizer) (before : List Token) (r : Ran) (after : List Token) → RunsFrom s shift limit t before r after → AllBare (held r after)
-bare s shift limit t before r after c = rw (found s shift limit before after t r c) (all-bare s shift (t .at) (wholeRun s shift limit (length before) t .tokens) (called s shift limit (length before) t))
+bare s shift limit t before r after c = rw (found s shift limit before after t r c) (all-bare (t .reading) s shift (t .at) (wholeRun s shift limit (length before) t .tokens) (called s shift limit (length before) t))
 
 pub bare-at : (ts : List Token) (i : ℕ) (d : Token) → AllBare ts → i < length ts → Bare (getD ts i d)
 bare-at [] i d h l = absurd (omega arith)
@@ -74,4 +75,4 @@ bare-at (t ∷ ts) (suc i) d h l = bare-at ts i d (h .1) (omega arith)
 pub bare-next : (s : List ℕ) (shift limit : ℕ) (t : Tokenizer) (y : Token) (u : Tokenizer) → Nexts s shift limit t (Got y) u → Bare y
 bare-next s shift limit t y u c =
     let d = delivered s shift limit t y u c in
-    rw (d .shifted) (shift-bare shift (d .token) (call-bare (left s (t .at)) (t .at) (d .token) (d .got)))
+    rw (d .shifted) (shift-bare shift (d .token) (call-bare (t .reading) (left s (t .at)) (t .at) (d .token) (d .got)))

@@ -62,11 +62,11 @@ module _ (s : List ℕ) (shift limit : ℕ) (t : Tokenizer) (kept : Kept s t) (r
   passed e = (run-settled s shift limit t before r after contract (rw e refl)) .passed
 
   -- 1. In a run that reaches the end, the gaps, the token spans and the dropped characters tile what was left; and it is read to its last byte.
-  pub one-place-from : r .how ≡ Ended → Tiled shift (chars rest) (t .at) (held r after) × (reach (chars rest) (t .at) ≡ length s)
+  pub one-place-from : r .how ≡ Ended → Tiled (t .reading) shift (chars rest) (t .at) (held r after) × (reach (chars rest) (t .at) ≡ length s)
   unfolding runWith
   one-place-from e =
       let p = passed e in
-      let h = tiles s shift (tell s shift limit (suc (length s)) (length before) t runs) (sym (how-is p) ∙ e) in
+      let h = tiles (t .reading) s shift (tell s shift limit (suc (length s)) (length before) t runs) (sym (how-is p) ∙ e) in
       (rw (tokens-are p) h, boundary-whole s (t .at) ((allowed s shift p) .valid) (kept-boundary s shift kept p))
 
   -- 2. In such a run the advances grow by the characters that were left and by those of the failed attribute attempts.
@@ -74,7 +74,7 @@ module _ (s : List ℕ) (shift limit : ℕ) (t : Tokenizer) (kept : Kept s t) (r
   unfolding runWith
   advances-add-up-from e =
       let p = passed e in
-      let h = counted s shift (tell s shift limit (suc (length s)) (length before) t runs) (sym (how-is p) ∙ e) in
+      let h = counted (t .reading) s shift (tell s shift limit (suc (length s)) (length before) t runs) (sym (how-is p) ∙ e) in
       rw (tokens-are p) (count-is p ∙ h)
 
   -- 3. In every run, whatever stops it.
@@ -84,12 +84,12 @@ module _ (s : List ℕ) (shift limit : ℕ) (t : Tokenizer) (kept : Kept s t) (r
     where
       go : (c : Checked) → checks s shift ≡ c → r .advances ≤ t .count + N rest + 2 * (H rest - B rest) + B rest * N rest
       go Passed p =
-          let h = bounds s shift (N rest) (tell s shift limit (suc (length s)) (length before) t runs) (omega arith) in
+          let h = bounds (t .reading) s shift (N rest) (tell s shift limit (suc (length s)) (length before) t runs) (omega arith) in
           let w = weight-is (N rest) (chars rest) in
           omega (arith, h, w, count-is p)
       go (Stopped z) p = let h = refused-run s shift limit t z p before r after contract .0 in let n : r .advances ≡ 0 = ap (λ (x : Ran). x .advances) h in omega arith
 
   -- 4. In every run that the checks let pass the count grows by what its calls pass by the definition.
-  pub no-invention-from : checks s shift ≡ Passed → r .advances ≡ t .count + spent s (r .stored + finalCall (r .how)) (t .at)
+  pub no-invention-from : checks s shift ≡ Passed → r .advances ≡ t .count + spent (t .reading) s (r .stored + finalCall (r .how)) (t .at)
   unfolding runWith
   no-invention-from p = rw (stored-is p, how-is p) (count-is p ∙ spent-run s shift limit (suc (length s)) (length before) t runs)

@@ -12,6 +12,7 @@ use Rattle.record.specs.Records.{refusal}
 use Rattle.record.specs.declared.Checked.the-variants.{Refused as Stopped}
 use Rattle.record.specs.declared.Code.{Code}
 use Rattle.record.specs.declared.Code.the-variants.{BadRecord, NoRoom}
+use Rattle.record.specs.declared.Reading.{Reading}
 use Rattle.record.specs.declared.Refusal.{Refusal}
 use Rattle.record.specs.declared.Token.{Token}
 use Rattle.scan.specs.Until.{left}
@@ -50,9 +51,9 @@ DoneBy Ended = Unit {0}
 DoneBy (Refused r) = OneOf readingCodes (r .code)
 
 -- of a call of the reading
-reads : (cs : List ℕ) (at : ℕ) → SaysIn (λ (t : Token). Unit {0}) (OneOf readingCodes) (next cs at .what)
+reads : (rd : Reading) (cs : List ℕ) (at : ℕ) → SaysIn (λ (t : Token). Unit {0}) (OneOf readingCodes) (next rd cs at .what)
 unfolding among
-reads cs at = (next-says (λ t. Unit {0}) (OneOf readingCodes) (λ kind o p h. tt) (λ kind o p from to h s. tt) refl refl refl refl refl refl refl refl (λ o p from to. tt) (λ g d t h. h) cs at) .is
+reads rd cs at = (next-says rd (λ t. Unit {0}) (OneOf readingCodes) (λ kind o p h. tt) (λ kind o p from to h s. tt) refl refl refl refl refl refl refl refl (λ o p from to. tt) (λ g d t h. h) cs at) .is
 
 done-by : (shift : ℕ) (w : What) → SaysIn (λ (t : Token). Unit {0}) (OneOf readingCodes) w → DoneBy (doneBy (shiftWhat shift w))
 done-by shift (Got t) h = tt
@@ -68,7 +69,7 @@ next-holds s shift limit t h = go (single s shift limit t)
     go (error-kept z k e) = rw e h
     go (end-kept k e) = rw e h
     go (limited k l e) = rw e h
-    go (read k l e) = rw e (done-by shift (callOf s t .what) (reads (left s (t .at)) (t .at)))
+    go (read k l e) = rw e (done-by shift (callOf s t .what) (reads (t .reading) (left s (t .at)) (t .at)))
 
 -- so where no code of the reading is among these, none of them is read
 pub not-reading : (ns : List ℕ) → Apart readingCodes ns → (c : Code) → OneOf readingCodes c → OneOf ns c → ⊥
@@ -81,11 +82,11 @@ said-not ns a shift (Error r) z h e o = let q : z .code ≡ r .code = cc in not-
 said-not ns a shift End z h e o = let q : _≡_ {A = ℕ} 0 1 = cc in omega arith
 
 pub read-not : (ns : List ℕ) → Apart readingCodes ns → (s : List ℕ) (shift : ℕ) (t : Tokenizer) (z : Refusal) → shiftWhat shift (callOf s t .what) ≡ Error z → OneOf ns (z .code) → ⊥
-read-not ns a s shift t z e o = said-not ns a shift (callOf s t .what) z (reads (left s (t .at)) (t .at)) e o
+read-not ns a s shift t z e o = said-not ns a shift (callOf s t .what) z (reads (t .reading) (left s (t .at)) (t .at)) e o
 
 -- every tokenizer that a caller has is done so
 pub kept-done : (s : List ℕ) {t : Tokenizer} → Kept s t → DoneBy (t .done)
-kept-done s d = by-kept s (λ u. DoneBy (u .done)) (next-holds s) tt d
+kept-done s d = by-kept s (λ u. DoneBy (u .done)) (next-holds s) (λ rd. tt) d
 
 -- ---- so a call answers one of these
 abbrev Said : List ℕ → What → Type 0
@@ -111,7 +112,7 @@ module _ (s : List ℕ) (shift limit : ℕ) (t : Tokenizer) (k : Kept s t) where
       go (error-kept z u e) h d = rw e (wider (z .code) (rw (u .is) at d))
       go (end-kept u e) h d = rw e tt
       go (limited u l e) h d = rw e refl
-      go (read u l e) h d = rw e (shift-said shift (callOf s t .what) (reads (left s (t .at)) (t .at)))
+      go (read u l e) h d = rw e (shift-said shift (callOf s t .what) (reads (t .reading) (left s (t .at)) (t .at)))
 
   -- THE THEOREMS, of every tokenizer that a caller has. A single call refuses for one of these: so not for 1, 3, 4, 7, 14, 16 to 21 or from 24 on
   pub next-codes : (z : Refusal) (u : Tokenizer) → Nexts s shift limit t (Error z) u → among (codeNumber (z .code)) callCodes ≡ true

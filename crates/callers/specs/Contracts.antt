@@ -5,8 +5,9 @@ use mathlib.Core.List.{List}
 use mathlib.Core.Path.{_≡_}
 use lib.ListN.{length}
 use Rattle.record.specs.Records.{over}
+use Rattle.record.specs.declared.Reading.{Reading}
 use Rattle.record.specs.declared.Token.{Token}
-use Rattle.reading.specs.Answers.{startState}
+use Rattle.reading.specs.Answers.{startIn}
 use Rattle.reading.specs.declared.Outcome.{Outcome}
 use Rattle.reading.specs.declared.Outcome.the-variants.{Ended, Refused, Running}
 use Rattle.reading.specs.declared.Tokenizer.{Tokenizer}
@@ -25,10 +26,10 @@ Nexts s shift limit t r u = (r ≡ nextToken s shift limit t .what) × (u ≡ ne
 abbrev pub RunsFrom : List ℕ → ℕ → ℕ → Tokenizer → List Token → Ran → List Token → Type 0
 RunsFrom s shift limit t before r after = (r ≡ ranOf s shift limit (length before) t) × (after ≡ over (wholeRun s shift limit (length before) t .tokens) before)
 
--- The tokenizers that a caller has for the text s: the one that `tok::start` gives, and those that `run::next` and `run::run` leave, each with
+-- The tokenizers that a caller has for the text s: those that `tok::start_in` gives for a reading, and those that `run::next` and `run::run` leave, each with
 -- any shift, limit and room.
 pub data Kept (s : List ℕ) : Tokenizer → Type 0 where
-  fresh : Kept s startState
+  fresh : (rd : Reading) → Kept s (startIn rd)
   called : {t u : Tokenizer} {r : What} (shift limit : ℕ) → Kept s t → Nexts s shift limit t r u → Kept s u
   ran : {t : Tokenizer} {r : Ran} (shift limit : ℕ) (before after : List Token) → Kept s t → RunsFrom s shift limit t before r after → Kept s (r .state)
 

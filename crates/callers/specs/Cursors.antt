@@ -10,8 +10,9 @@ use Rattle.utf8.specs.Utf8.{boundary}
 use Rattle.record.specs.Allowed.{allowed}
 use Rattle.record.specs.Checks.{checks}
 use Rattle.record.specs.declared.Checked.the-variants.{Passed}
+use Rattle.record.specs.declared.Reading.{Reading}
 use Rattle.record.specs.declared.Token.{Token}
-use Rattle.reading.specs.Answers.{startState}
+use Rattle.reading.specs.Answers.{startIn}
 use Rattle.reading.specs.declared.Outcome.{Outcome}
 use Rattle.reading.specs.declared.Tokenizer.{Tokenizer}
 use Rattle.reading.specs.declared.What.{What}
@@ -40,8 +41,8 @@ module _ (s : List ℕ) (P : Tokenizer → Type 0) where
       let d = repeated s shift limit t before r after c in
       by-last k shift limit (length before) (d .reached) (length (held r after)) (r .how) (r .state) (d .last) (by-calls k shift limit (d .calls) h)
 
-  pub by-kept : Keeps → P startState → {t : Tokenizer} → Kept s t → P t
-  by-kept k h fresh = h
+  pub by-kept : Keeps → ((rd : Reading) → P (startIn rd)) → {t : Tokenizer} → Kept s t → P t
+  by-kept k h (fresh rd) = h rd
   by-kept k h (called {t} shift limit d c) = rw (c .1) (k shift limit t (by-kept k h d))
   by-kept k h (ran {t} {r} shift limit before after d c) = by-run k shift limit t before r after c (by-kept k h d)
 
@@ -61,4 +62,4 @@ module _ (s : List ℕ) (shift limit : ℕ) (t : Tokenizer) (on : boundary s (t 
 
 -- so the cursor of every tokenizer that a caller has of a well-formed text is on a boundary, and no call refuses it for 20
 pub kept-boundary : (s : List ℕ) (shift : ℕ) {t : Tokenizer} → Kept s t → checks s shift ≡ Passed → boundary s (t .at) ≡ true
-kept-boundary s shift d e = by-kept s (λ u. boundary s (u .at) ≡ true) (next-boundary s) (bounded s 0 (omega arith) (valid-whole s ((allowed s shift e) .valid))) d
+kept-boundary s shift d e = by-kept s (λ u. boundary s (u .at) ≡ true) (next-boundary s) (λ rd. bounded s 0 (omega arith) (valid-whole s ((allowed s shift e) .valid))) d

@@ -4,6 +4,7 @@ use native.Mathlib.Omega.{arith}
 use mathlib.Core.List.{List}
 use mathlib.Core.Path.{_≡_, refl, sym, ap, _∙_}
 use lib.ListN.{length}
+use Rattle.record.specs.declared.Reading.{Reading}
 use Rattle.record.specs.declared.Token.{Token}
 use Rattle.scan.specs.Far.{Far}
 use Rattle.scan.specs.Until.{left}
@@ -26,8 +27,8 @@ use Rattle.callers.specs.Single.{Single, callOf, end-kept, error-kept, l
 use Rattle.callers.specs.Repeating.{next-settled, run-settled}
 
 -- ---- a call of the reading that answers the end has passed all that was left
-module _ (s : List ℕ) (at : ℕ) (o : On s at) where
-  by-end : (p n : ℕ) (w : What) → LaidIn (left s at) at p n w → w ≡ End → p ≡ length s
+module _ (rd : Reading) (s : List ℕ) (at : ℕ) (o : On s at) where
+  by-end : (p n : ℕ) (w : What) → LaidIn rd (left s at) at p n w → w ≡ End → p ≡ length s
   by-end p n (Got t) h e = let q : _≡_ {A = ℕ} 0 1 = cc in absurd (omega arith)
   by-end p n (Error r) h e = let q : _≡_ {A = ℕ} 0 1 = cc in absurd (omega arith)
   by-end p n End h e =
@@ -35,8 +36,8 @@ module _ (s : List ℕ) (at : ℕ) (o : On s at) where
       let g : Far (left s at) at (length (left s at)) p = rw (h .1) at f in
       far-whole (left s at) at p g ∙ o .whole
 
-  end-at : next (left s at) at .what ≡ End → next (left s at) at .at ≡ length s
-  end-at e = let x = next (left s at) at in by-end (x .at) (x .advances) (x .what) ((next-laid (left s at) at) .is) e
+  end-at : next rd (left s at) at .what ≡ End → next rd (left s at) at .at ≡ length s
+  end-at e = let x = next rd (left s at) at in by-end (x .at) (x .advances) (x .what) ((next-laid rd (left s at) at) .is) e
 
 -- ---- so of the single call
 abbrev AtEnd : List ℕ → Tokenizer → Type 0
@@ -56,11 +57,11 @@ next-at s shift limit t h = go (single s shift limit t)
     go (error-kept z k e) = rw e h
     go (end-kept k e) = rw e h
     go (limited k l e) = rw e h
-    go (read k l e) = rw e (λ d. end-at s (t .at) (on-of s shift (t .at) (k .passed) (k .on)) (said-end shift (callOf s t .what) d))
+    go (read k l e) = rw e (λ d. end-at (t .reading) s (t .at) (on-of s shift (t .at) (k .passed) (k .on)) (said-end shift (callOf s t .what) d))
 
 -- ---- THE THEOREMS
 pub kept-end : (s : List ℕ) {t : Tokenizer} → Kept s t → t .done ≡ Ended → t .at ≡ length s
-kept-end s k = by-kept s (AtEnd s) (next-at s) (λ e. let q : _≡_ {A = ℕ} 0 1 = cc in absurd (omega arith)) k
+kept-end s k = by-kept s (AtEnd s) (next-at s) (λ rd e. let q : _≡_ {A = ℕ} 0 1 = cc in absurd (omega arith)) k
 
 module _ (s : List ℕ) (shift limit : ℕ) (t : Tokenizer) (k : Kept s t) where
   -- of a single call that answers the end

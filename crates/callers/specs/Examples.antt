@@ -13,7 +13,7 @@ use Rattle.scan.specs.Far.{after}
 use Rattle.scan.specs.IfNext.{ifNext}
 use Rattle.scan.specs.Until.{until}
 use Rattle.scan.specs.Walk.{walkFrom}
-use Rattle.code.specs.Code.{bodySkip, closes, codeTurn, escSkip, oneSkip, opens, quoteEnd, quoteSkip, rSkip, slashSkip}
+use Rattle.code.specs.Code.{bodySkip, closes, codeTurn, escSkip, oneSkip, opens, quoteEnd, quoteLast, quoteSkip, rSkip, slashSkip}
 use Rattle.reading.specs.Answers.{deliver, more, plain, refuse, startState, told}
 use Rattle.reading.specs.Attribute.{attempt, attemptBody, attemptBracket, attributeToken, attributeTurn, dropped, hash}
 use Rattle.reading.specs.Gaps.{commentTurn, gap, gapTurn}
@@ -58,7 +58,7 @@ outcomes =
     ∷ []
 
 pub each-comes-out : outcomes ≡ 22 ∷ 23 ∷ 2 ∷ 5 ∷ 6 ∷ 8 ∷ 9 ∷ 10 ∷ 11 ∷ 13 ∷ 14 ∷ 15 ∷ []
-unfolding outcomes ranWith wholeRunWith checks runWith runFromWith stepWith next gap gapTurn commentTurn tokenOrEnd token starts single singles half stray bang colon dot look tilde minus arrowLook arrowCode rightArrow equals attributeTurn attemptBody attemptBracket attempt dropped attributeToken hash regexToken hashed regexLiteral rWord spells keywords useToken idToken keywordToken wordToken identifierish escape stringLiteral charLiteral lifetimeish slashSkip quoteEnd oneSkip escSkip quoteSkip bodySkip rSkip opens closes codeTurn walkFrom deliver plain refuse more told depthFrom slashDepth deepest ifNext until after chars charsFrom sight lead low high widthOf startRanges continueRanges holds inRanges reach
+unfolding outcomes ranWith wholeRunWith checks runWith runFromWith stepWith next gap gapTurn commentTurn tokenOrEnd token starts single singles half stray bang colon dot look tilde minus arrowLook arrowCode rightArrow equals attributeTurn attemptBody attemptBracket attempt dropped attributeToken hash regexToken hashed regexLiteral rWord spells keywords useToken idToken keywordToken wordToken identifierish escape stringLiteral charLiteral lifetimeish slashSkip quoteLast quoteEnd oneSkip escSkip quoteSkip bodySkip rSkip opens closes codeTurn walkFrom deliver plain refuse more told depthFrom slashDepth deepest ifNext until after chars charsFrom sight lead low high widthOf startRanges continueRanges holds inRanges reach
 each-comes-out = refl
 
 -- TAKING UP: two commas, with room for one. 14 at the second; a second run from the tokenizer left behind stores it and comes to the end, with count 2

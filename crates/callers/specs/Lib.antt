@@ -2,6 +2,7 @@
 pub mod Contracts
 pub mod Single
 pub mod Cursors
+pub mod Readings
 pub mod Repeating
 pub mod TakingUp
 pub mod Spans

@@ -62,7 +62,7 @@ module _ (s : List ℕ) (shift limit : ℕ) (t : Tokenizer) (z : Refusal) (other
       go (error-kept x k e) = rw e
       go (end-kept k e) = rw e
       go (limited k l e) = rw e
-      go (read k l e) = absurd (no-error (callOf s t .what) ((next-errs (left s (t .at)) (t .at)) .is) (rw e at w))
+      go (read k l e) = absurd (no-error (callOf s t .what) ((next-errs (t .reading) (left s (t .at)) (t .at)) .is) (rw e at w))
 
   -- so of 11 to 13, of 15 and of 20, from any tokenizer
   pub nothing-changed : (u : Tokenizer) → Nexts s shift limit t (Error z) u → u ≡ t

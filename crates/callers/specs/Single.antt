@@ -34,7 +34,7 @@ pub record Stands (s : List ℕ) (shift : ℕ) (done : Outcome) (t : Tokenizer) 
 
 -- the call of the reading from where the tokenizer stands
 abbrev pub callOf : List ℕ → Tokenizer → Call
-callOf s t = next (left s (t .at)) (t .at)
+callOf s t = next (t .reading) (left s (t .at)) (t .at)
 
 -- an answer that leaves the tokenizer as it is
 abbrev pub errorAt : Tokenizer → Refusal → Stepped
@@ -44,7 +44,7 @@ errorAt t z = record { what = Error z; next = t; «gap_depth» = 0 }
 abbrev pub readBy : ℕ → Tokenizer → Call → Stepped
 readBy shift t x = record {
   what = shiftWhat shift (x .what);
-  next = record { at = x .at; count = t .count + x .advances; done = doneBy (shiftWhat shift (x .what)) };
+  next = record { at = x .at; count = t .count + x .advances; done = doneBy (shiftWhat shift (x .what)); reading = t .reading };
   «gap_depth» = x .«gap_depth»;
 }
 

@@ -7,6 +7,7 @@ use mathlib.Core.Path.{_≡_}
 use lib.ListN.{getD, length}
 use Rattle.utf8.specs.Laws.{boundary-whole, bounded}
 use Rattle.utf8.specs.Utf8.{boundary}
+use Rattle.record.specs.declared.Reading.{Reading}
 use Rattle.record.specs.declared.Token.{Token}
 use Rattle.scan.specs.Far.{then}
 use Rattle.scan.specs.Until.{left}
@@ -36,26 +37,26 @@ module _ (s : List ℕ) (shift : ℕ) where
   on-shifted p o = let e : p + shift - shift ≡ p = omega arith in rw e (bounded s p (o .within) (o .whole))
 
   -- the gap leads to a token's start, and its characters to its end
-  call-spanned : (at : ℕ) (t : Token) → On s at → next (left s at) at .what ≡ Got t → Spanned s shift (shiftToken shift t)
-  call-spanned at t o g =
-      let h = placed s at t g in
+  call-spanned : (rd : Reading) (at : ℕ) (t : Token) → On s at → next rd (left s at) at .what ≡ Got t → Spanned s shift (shiftToken shift t)
+  call-spanned rd at t o g =
+      let h = placed rd s at t g in
       let a = on-far s at _ (t .start) o (h .gap-far) in
       let b = on-far s at _ (t .end) o (then (h .gapped) (left s at) at (t .start) (h .width) (t .end) (h .gap-far) (h .span)) in
       record { shifted = omega arith; from = on-shifted (t .start) a; to = on-shifted (t .end) b }
 
-  all-spanned : (at : ℕ) (ts : List Token) → On s at → Called s shift at ts → AllSpanned s shift ts
-  all-spanned at [] o c = tt
-  all-spanned at (x ∷ ts) o c =
+  all-spanned : (rd : Reading) (at : ℕ) (ts : List Token) → On s at → Called rd s shift at ts → AllSpanned s shift ts
+  all-spanned rd at [] o c = tt
+  all-spanned rd at (x ∷ ts) o c =
       let d = c .0 in
-      let f = placed-far _ _ _ _ _ (placed s at (d .token) (d .got)) in
-      (rw (d .shifted) (call-spanned at (d .token) o (d .got)), all-spanned (next (left s at) at .at) ts (on-far s at _ _ o f) (c .1))
+      let f = placed-far rd _ _ _ _ _ (placed rd s at (d .token) (d .got)) in
+      (rw (d .shifted) (call-spanned rd at (d .token) o (d .got)), all-spanned rd (next rd (left s at) at .at) ts (on-far s at _ _ o f) (c .1))
 
 -- ---- THE THEOREM, of the records that a run holds, and of the one at an index
 pub spanned : (s : List ℕ) (shift limit : ℕ) (t : Tokenizer) (before : List Token) (r : Ran) (after : List Token) → RunsFrom s shift limit t before r after → AllSpanned s shift (held r after)
 spanned s shift limit t before r after c =
     rw (found s shift limit before after t r c)
     (of-run s shift limit (length before) t (λ ts. AllSpanned s shift ts) tt
-    (λ a b d. all-spanned s shift (t .at) (run s shift limit (length before) t .tokens) (record { within = boundary-within s (t .at) b; whole = boundary-whole s (t .at) (a .valid) b }) d))
+    (λ a b d. all-spanned s shift (t .reading) (t .at) (run s shift limit (length before) t .tokens) (record { within = boundary-within s (t .at) b; whole = boundary-whole s (t .at) (a .valid) b }) d))
 
 pub spanned-at : (s : List ℕ) (shift : ℕ) (ts : List Token) (i : ℕ) (d : Token) → AllSpanned s shift ts → i < length ts → Spanned s shift (getD ts i d)
 spanned-at s shift [] i d h l = absurd (omega arith)

@@ -16,6 +16,7 @@ use Rattle.record.specs.Records.{tokenOf}
 use Rattle.record.specs.declared.Code.{Code}
 use Rattle.record.specs.declared.Kind.{Kind}
 use Rattle.record.specs.declared.Kind.the-variants.{StringLiteral}
+use Rattle.record.specs.declared.Reading.{Reading}
 use Rattle.record.specs.declared.Token.{Token}
 use Rattle.scan.specs.Far.{after}
 use Rattle.scan.specs.Readers.{stringEnd}
@@ -64,9 +65,9 @@ no : {A : Type 0} → true ≡ false → A
 no e = let w : _≡_ {A = ℕ} 0 1 = cc in absurd (omega arith)
 
 -- ---- a quote starts a string, and nothing else does
-quote-first : (cs : List ℕ) (p : ℕ) → tokenOrEnd (34 ∷ cs) p ≡ more 1 (stringLiteral p cs (p + 1))
+quote-first : (rd : Reading) (cs : List ℕ) (p : ℕ) → tokenOrEnd rd (34 ∷ cs) p ≡ more 1 (stringLiteral p cs (p + 1))
 unfolding tokenOrEnd token single singles starts widthOf
-quote-first cs p = refl
+quote-first rd cs p = refl
 
 plain-other : (kind : Kind) → hasPayload kind ≡ false → isString kind ≡ false
 unfolding among
@@ -76,9 +77,9 @@ plain-other kind h = go (isString kind) refl
     go true q = let k : kindNumber kind ≡ 18 = eqb-true (kindNumber kind) 18 q in no (rw k at h)
     go false q = q
 
-others : (c : ℕ) (cs : List ℕ) (p : ℕ) → eqb c 34 ≡ false → (t : Token) → tokenOrEnd (c ∷ cs) p .what ≡ Got t → isString (t .kind) ≡ false
-others c cs p n t e =
-    let h = first-says (λ (t : Token). isString (t .kind) ≡ false) (λ (c : Code). Unit {0}) (λ kind o p h. plain-other kind h) (λ kind o p from to h s. s) tt tt tt tt tt tt tt tt p c cs
+others : (rd : Reading) (c : ℕ) (cs : List ℕ) (p : ℕ) → eqb c 34 ≡ false → (t : Token) → tokenOrEnd rd (c ∷ cs) p .what ≡ Got t → isString (t .kind) ≡ false
+others rd c cs p n t e =
+    let h = first-says rd (λ (t : Token). isString (t .kind) ≡ false) (λ (c : Code). Unit {0}) (λ kind o p h. plain-other kind h) (λ kind o p from to h s. s) tt tt tt tt tt tt tt tt p c cs
     (λ q. no (sym q ∙ n)) in
     let w : SaysIn (λ (t : Token). isString (t .kind) ≡ false) (λ (c : Code). Unit {0}) (Got t) = rw e at (h .is) in
     w
@@ -108,17 +109,17 @@ module _ (s : List ℕ) (shift : ℕ) (t : Token) where
           })
       go (Nothing q m) g = let u : Error _ ≡ Got t = rw g at e in let w : _≡_ {A = ℕ} 0 1 = cc in absurd (omega arith)
 
-  by-first : (p : ℕ) (cs : List ℕ) → left s p ≡ cs → tokenOrEnd cs p .what ≡ Got t → isString (t .kind) ≡ true → Quoted s shift (shiftToken shift t)
+  by-first : (rd : Reading) (p : ℕ) (cs : List ℕ) → left s p ≡ cs → tokenOrEnd rd cs p .what ≡ Got t → isString (t .kind) ≡ true → Quoted s shift (shiftToken shift t)
   unfolding tokenOrEnd more
-  by-first p [] l e k = let w : _≡_ {A = ℕ} 0 1 = cc in absurd (omega arith)
-  by-first p (c ∷ cs) l e k = go (eqb c 34) refl
+  by-first rd p [] l e k = let w : _≡_ {A = ℕ} 0 1 = cc in absurd (omega arith)
+  by-first rd p (c ∷ cs) l e k = go (eqb c 34) refl
     where
       go : (b : Bool) → eqb c 34 ≡ b → Quoted s shift (shiftToken shift t)
       go true q =
           let d = eqb-true c 34 q in
-          let e′ : tokenOrEnd (34 ∷ cs) p .what ≡ Got t = rw d at e in
-          by-string p cs (rw d at l) (ap (λ (x : Call). x .what) (sym (quote-first cs p)) ∙ e′)
-      go false q = no (sym k ∙ others c cs p q t e)
+          let e′ : tokenOrEnd rd (34 ∷ cs) p .what ≡ Got t = rw d at e in
+          by-string p cs (rw d at l) (ap (λ (x : Call). x .what) (sym (quote-first rd cs p)) ∙ e′)
+      go false q = no (sym k ∙ others rd c cs p q t e)
 
 -- depths change nothing of it
 deep-quoted : (s : List ℕ) (shift g d : ℕ) (t : Token) → Quoted s shift (shiftToken shift t) → Quoted s shift (shiftToken shift (toldToken g d t))
@@ -134,29 +135,29 @@ deep-quoted s shift g d t q = record {
   end = q .end;
 }
 
-call-quoted : (s : List ℕ) (shift : ℕ) (t : Token) (at : ℕ) → next (left s at) at .what ≡ Got t → isString (t .kind) ≡ true → Quoted s shift (shiftToken shift t)
+call-quoted : (rd : Reading) (s : List ℕ) (shift : ℕ) (t : Token) (at : ℕ) → next rd (left s at) at .what ≡ Got t → isString (t .kind) ≡ true → Quoted s shift (shiftToken shift t)
 unfolding more told
-call-quoted s shift t at e k = go (gap (left s at) at) refl
+call-quoted rd s shift t at e k = go (gap (left s at) at) refl
   where
     go : (x : Skip) → gap (left s at) at ≡ x → Quoted s shift (shiftToken shift t)
     go (Past p m) g =
-        let y = tokenOrEnd (left s p) p in
-        let u = untold (gapDepth (left s at) at) (y .«code_depth») (y .what) t (ap (λ (x : Call). x .what) (sym (next-gap s at p m g)) ∙ e) in
-        rw (u .with-depths) (deep-quoted s shift _ _ (u .token) (by-first s shift (u .token) p (left s p) refl (u .got) (rw (u .with-depths) at k)))
+        let y = tokenOrEnd rd (left s p) p in
+        let u = untold (gapDepth (left s at) at) (y .«code_depth») (y .what) t (ap (λ (x : Call). x .what) (sym (next-gap rd s at p m g)) ∙ e) in
+        rw (u .with-depths) (deep-quoted s shift _ _ (u .token) (by-first s shift (u .token) rd p (left s p) refl (u .got) (rw (u .with-depths) at k)))
     go (Lost r p m) g =
-        let u : Error r ≡ Got t = ap (λ (x : Call). x .what) (sym (next-lost s at p m r g)) ∙ e in
+        let u : Error r ≡ Got t = ap (λ (x : Call). x .what) (sym (next-lost rd s at p m r g)) ∙ e in
         let w : _≡_ {A = ℕ} 0 1 = cc in
         absurd (omega arith)
 
-all-quoted : (s : List ℕ) (shift at : ℕ) (ts : List Token) → Called s shift at ts → AllQuoted s shift ts
-all-quoted s shift at [] c = tt
-all-quoted s shift at (x ∷ ts) c =
+all-quoted : (rd : Reading) (s : List ℕ) (shift at : ℕ) (ts : List Token) → Called rd s shift at ts → AllQuoted s shift ts
+all-quoted rd s shift at [] c = tt
+all-quoted rd s shift at (x ∷ ts) c =
     let d = c .0 in
-    (λ k. rw (d .shifted) (call-quoted s shift (d .token) at (d .got) (rw (d .shifted) at k)), all-quoted s shift (next (left s at) at .at) ts (c .1))
+    (λ k. rw (d .shifted) (call-quoted rd s shift (d .token) at (d .got) (rw (d .shifted) at k)), all-quoted rd s shift (next rd (left s at) at .at) ts (c .1))
 
 -- ---- THE THEOREM
 pub strings-quoted : (s : List ℕ) (shift limit : ℕ) (t : Tokenizer) (before : List Token) (r : Ran) (after : List Token) → RunsFrom s shift limit t before r after
     → AllQuoted s shift (held r after)
 strings-quoted s shift limit t before r after c =
     rw (found s shift limit before after t r c)
-    (all-quoted s shift (t .at) (wholeRun s shift limit (length before) t .tokens) (called s shift limit (length before) t))
+    (all-quoted (t .reading) s shift (t .at) (wholeRun s shift limit (length before) t .tokens) (called s shift limit (length before) t))

@@ -8,6 +8,7 @@ use lib.Dec.{eqb, leb, ltb}
 use lib.ListN.{drop, getD, length}
 use borrow.Author.Tests.{eq-eqb, eqb-false, eqb-true, le-leb, leb-false, lt-leb, ne-eqb, not-false}
 use Rattle.utf8.specs.Chars.{'#, '/, 'comma, 'dot, 'dquote, 'quote, 'r, 'semi}
+use Rattle.record.specs.declared.Reading.{Reading}
 use Rattle.scan.specs.Far.{far-none, lands}
 use Rattle.scan.specs.Runs.{byte-seen, neither, run, run-over}
 use Rattle.scan.specs.Deepens.{depth-calm}
@@ -87,9 +88,19 @@ module _ (x : ℕ) (e : stopHere x ≡ false) where
   unfolding stopHere
   calm-low = leb-false 128 x (neither (leb 128 x) (signs x) e .0)
 
-  calm : (b : ℕ) (cs : List ℕ) (at next : ℕ) → codeTurn b x cs at next ≡ Pass next 0 b
+  calm-none : x ≡ '/ → ⊥
+  unfolding stopHere
+  calm-none =
+      let s = neither (covers x) (opens x || (closes x || ends x)) (neither (leb 128 x) (signs x) e .1) in
+      let d = neither (eqb x 'dquote) (eqb x 'quote || (eqb x 'r || eqb x '/)) (s .0) in
+      let q = neither (eqb x 'quote) (eqb x 'r || eqb x '/) (d .1) in
+      eqb-false x '/ (neither (eqb x 'r) (eqb x '/) (q .1) .1)
+
+-- in every reading
+module _ (rd : Reading) where
+  calm : (x : ℕ) → stopHere x ≡ false → (b : ℕ) (cs : List ℕ) (at next : ℕ) → codeTurn rd b x cs at next ≡ Pass next 0 b
   unfolding stopHere codeTurn
-  calm b cs at next =
+  calm x e b cs at next =
       let s = neither (covers x) (opens x || (closes x || ends x)) (neither (leb 128 x) (signs x) e .1) in
       let o = neither (opens x) (closes x || ends x) (s .1) in
       let c = neither (closes x) (ends x) (o .1) in
@@ -99,34 +110,26 @@ module _ (x : ℕ) (e : stopHere x ≡ false) where
       let r = neither (eqb x 'r) (eqb x '/) (q .1) in
       simp (d .0, q .0, r .0, r .1, o .0, c .0, f .0, f .1) (either-way (ltb 0 b) (Pass next 0 b))
 
-  calm-none : x ≡ '/ → ⊥
-  unfolding stopHere
-  calm-none =
-      let s = neither (covers x) (opens x || (closes x || ends x)) (neither (leb 128 x) (signs x) e .1) in
-      let d = neither (eqb x 'dquote) (eqb x 'quote || (eqb x 'r || eqb x '/)) (s .0) in
-      let q = neither (eqb x 'quote) (eqb x 'r || eqb x '/) (d .1) in
-      eqb-false x '/ (neither (eqb x 'r) (eqb x '/) (q .1) .1)
+  module _ (last : ℕ → ℕ → ℕ → Skip) (s : List ℕ) (b : ℕ) where
+    calm-on : (at n : ℕ) → at < length s → classStop codeStops (getD s at 0) ≡ false
+        → walkFrom (codeTurn rd) last 0 (left s at) b at n ≡ walkFrom (codeTurn rd) last 0 (left s (at + 1)) b (at + 1) (n + 1)
+    calm-on at n h e =
+        let z = class-none (getD s at 0) e in
+        let q : n + 1 + 0 ≡ n + 1 = omega arith in
+        rw q at (walk-pass (codeTurn rd) last (byte-seen s at h (calm-low _ z)) b n (calm _ z b (left s (at + 1)) at (at + 1)) (lands 0 s (at + 1) (at + 1) (far-none _ _)))
 
-module _ (last : ℕ → ℕ → ℕ → Skip) (s : List ℕ) (b : ℕ) where
-  calm-on : (at n : ℕ) → at < length s → classStop codeStops (getD s at 0) ≡ false
-      → walkFrom codeTurn last 0 (left s at) b at n ≡ walkFrom codeTurn last 0 (left s (at + 1)) b (at + 1) (n + 1)
-  calm-on at n h e =
-      let z = class-none (getD s at 0) e in
-      let q : n + 1 + 0 ≡ n + 1 = omega arith in
-      rw q at (walk-pass codeTurn last (byte-seen s at h (calm-low _ z)) b n (calm _ z b (left s (at + 1)) at (at + 1)) (lands 0 s (at + 1) (at + 1) (far-none _ _)))
+    pub walk-run : (from to n : ℕ) → to ≡ from + run (classStop codeStops) (drop from s)
+        → walkFrom (codeTurn rd) last 0 (left s to) b to (n + (to - from)) ≡ walkFrom (codeTurn rd) last 0 (left s from) b from n
+    walk-run = run-over s (classStop codeStops) (λ (at n : ℕ). walkFrom (codeTurn rd) last 0 (left s at) b at n) calm-on
 
-  pub walk-run : (from to n : ℕ) → to ≡ from + run (classStop codeStops) (drop from s)
-      → walkFrom codeTurn last 0 (left s to) b to (n + (to - from)) ≡ walkFrom codeTurn last 0 (left s from) b from n
-  walk-run = run-over s (classStop codeStops) (λ (at n : ℕ). walkFrom codeTurn last 0 (left s at) b at n) calm-on
+  -- and a run of such bytes goes no deeper
+  module _ (s : List ℕ) (b d : ℕ) where
+    depth-on : (at n : ℕ) → at < length s → classStop codeStops (getD s at 0) ≡ false
+        → depthFrom (codeTurn rd) 0 (left s at) b at d ≡ depthFrom (codeTurn rd) 0 (left s (at + 1)) b (at + 1) d
+    depth-on at n h e =
+        let z = class-none (getD s at 0) e in
+        depth-calm (codeTurn rd) (byte-seen s at h (calm-low _ z)) b d (calm _ z b (left s (at + 1)) at (at + 1)) (lands 0 s (at + 1) (at + 1) (far-none _ _)) (calm-none _ z)
 
--- and a run of such bytes goes no deeper
-module _ (s : List ℕ) (b d : ℕ) where
-  depth-on : (at n : ℕ) → at < length s → classStop codeStops (getD s at 0) ≡ false
-      → depthFrom codeTurn 0 (left s at) b at d ≡ depthFrom codeTurn 0 (left s (at + 1)) b (at + 1) d
-  depth-on at n h e =
-      let z = class-none (getD s at 0) e in
-      depth-calm codeTurn (byte-seen s at h (calm-low _ z)) b d (calm _ z b (left s (at + 1)) at (at + 1)) (lands 0 s (at + 1) (at + 1) (far-none _ _)) (calm-none _ z)
-
-  pub depth-run : (from to : ℕ) → to ≡ from + run (classStop codeStops) (drop from s)
-      → depthFrom codeTurn 0 (left s to) b to d ≡ depthFrom codeTurn 0 (left s from) b from d
-  depth-run from to e = run-over s (classStop codeStops) (λ (at n : ℕ). depthFrom codeTurn 0 (left s at) b at d) depth-on from to 0 e
+    pub depth-run : (from to : ℕ) → to ≡ from + run (classStop codeStops) (drop from s)
+        → depthFrom (codeTurn rd) 0 (left s to) b to d ≡ depthFrom (codeTurn rd) 0 (left s from) b from d
+    depth-run from to e = run-over s (classStop codeStops) (λ (at n : ℕ). depthFrom (codeTurn rd) 0 (left s at) b at d) depth-on from to 0 e

@@ -1,6 +1,7 @@
 // Where action code ends: the Rust's `code`, and the readers that cover in it. An answer names a place, and the characters passed to
 // come there, as the ledger counts them.
 use record::Code;
+use record::Reading;
 use record::Refusal;
 use scan::Deep;
 use scan::Found;
@@ -23,7 +24,7 @@ ghost use Rattle.scan.specs.Walk.{turnOf};
 ghost use Rattle.scan.specs.Passes.{passedOf};
 ghost use Rattle.scan.specs.Runs.{run};
 ghost use Rattle.code.specs.Stops.{classStop, codeStops};
-ghost use Rattle.code.specs.Code.{slashSkip, quoteEnd, oneSkip, escSkip, quoteSkip, regexStart, closingHashes, bodySkip, hashSkip, rSkip, opens, closes, codeTurn, codeEnd, codeDepth};
+ghost use Rattle.code.specs.Code.{slashSkip, quoteLast, quoteEnd, oneSkip, escSkip, quoteSkip, regexStart, closingHashes, bodySkip, hashSkip, rSkip, opens, closes, codeTurn, codeEnd, codeDepth};
 
 // What starts at o is refused; the cursor stands at p, after m characters.
 fn lost(code: Code, o: usize, p: usize, m: usize) -> Skip
@@ -84,39 +85,49 @@ fn slash_skip(s: &[u8], at: usize, o: usize) -> Deep
     }
 }
 
-// ODDITY: after a closing quote the text must go on (the Rust's `bump` answers nothing at the end of the text). The old reading
-// does so; a later reading may choose otherwise.
-fn quote_end(s: &[u8], at: usize, o: usize, m: usize) -> Skip
-    ensures { λ r. ⌜ r ≡ skipMore m (quoteEnd o (chars (drop at (now (s .entry)))) at) ⌝ }
+// ODDITY, where the readings differ: at the end of the text, after a quoted literal that starts at o. In the old reading the text must go on (the Rust's `bump`
+// answers nothing there).
+fn quote_last(rd: Reading, at: usize, o: usize, m: usize) -> Skip
+    ensures { λ r. ⌜ r ≡ skipMore m (quoteLast rd o at) ⌝ }
+{
+    match rd {
+        Reading::Old => lost(Code::UnterminatedCharacterLiteral, o, at, m),
+        Reading::Kept => Skip::Past(at, m),
+    }
+}
+
+// After a quoted literal that starts at o.
+fn quote_end(s: &[u8], rd: Reading, at: usize, o: usize, m: usize) -> Skip
+    ensures { λ r. ⌜ r ≡ skipMore m (quoteEnd rd o (chars (drop at (now (s .entry)))) at) ⌝ }
 {
     match utf8::char_at(s, at) {
         Sight::Char { code: _, width: _ } => Skip::Past(at, m),
-        Sight::End => lost(Code::UnterminatedCharacterLiteral, o, at, m),
+        Sight::End => quote_last(rd, at, o, m),
     }
 }
 
 // After a quote at o and one character: a quote, if there is one.
-fn one_skip(s: &[u8], at: usize, o: usize) -> Skip
-    ensures { λ r. ⌜ r ≡ skipMore 1 (oneSkip o (chars (drop at (now (s .entry)))) at) ⌝ }
+fn one_skip(s: &[u8], rd: Reading, at: usize, o: usize) -> Skip
+    ensures { λ r. ⌜ r ≡ skipMore 1 (oneSkip rd o (chars (drop at (now (s .entry)))) at) ⌝ }
 {
     match utf8::char_at(s, at) {
         Sight::Char { code, width } => {
             if code == signs::QUOTE {
-                return quote_end(s, at + width, o, 2);
+                return quote_end(s, rd, at + width, o, 2);
             }
             Skip::Past(at, 1)
         }
-        Sight::End => quote_end(s, at, o, 1),
+        Sight::End => quote_end(s, rd, at, o, 1),
     }
 }
 
 // After a quote at o and a backslash: a character, and all through the next quote.
-fn esc_skip(s: &[u8], at: usize, o: usize) -> Skip
-    ensures { λ r. ⌜ r ≡ skipMore 1 (escSkip o (chars (drop at (now (s .entry)))) at) ⌝ }
+fn esc_skip(s: &[u8], rd: Reading, at: usize, o: usize) -> Skip
+    ensures { λ r. ⌜ r ≡ skipMore 1 (escSkip rd o (chars (drop at (now (s .entry)))) at) ⌝ }
 {
     match utf8::char_at(s, at) {
         Sight::Char { code: _, width } => match scan::take_until(s, at + width, Sought::Quote) {
-            Found::At { place, passed } => quote_end(s, place + 1, o, passed + 3),
+            Found::At { place, passed } => quote_end(s, rd, place + 1, o, passed + 3),
             Found::Nothing { place, passed } => {
                 lost(Code::UnterminatedCharacterLiteral, o, place, passed + 2)
             }
@@ -126,31 +137,33 @@ fn esc_skip(s: &[u8], at: usize, o: usize) -> Skip
 }
 
 // After a quote at o.
-fn take_lifetime_or_character_literal(s: &[u8], at: usize, o: usize) -> Skip
-    ensures { λ r. ⌜ r ≡ quoteSkip o (chars (drop at (now (s .entry)))) at ⌝ }
+fn take_lifetime_or_character_literal(s: &[u8], rd: Reading, at: usize, o: usize) -> Skip
+    ensures { λ r. ⌜ r ≡ quoteSkip rd o (chars (drop at (now (s .entry)))) at ⌝ }
 {
     match utf8::char_at(s, at) {
         Sight::Char { code, width } => {
             if code == signs::BACKSLASH {
-                return esc_skip(s, at + width, o);
+                return esc_skip(s, rd, at + width, o);
             }
-            one_skip(s, at + width, o)
+            one_skip(s, rd, at + width, o)
         }
         Sight::End => lost(Code::UnterminatedCharacterLiteral, o, at, 0),
     }
 }
 
-// ODDITY: a regex in code starts at its first hash, and not at its letter r. The old reading does so; a later reading may choose
-// otherwise.
-fn regex_start(r: usize, first: usize) -> usize
-    ensures { λ x. ⌜ x ≡ regexStart r first ⌝ }
+// ODDITY, where the readings differ: a regex in code starts, in the old reading, at its first hash, and not at its letter r.
+fn regex_start(rd: Reading, r: usize, first: usize) -> usize
+    ensures { λ x. ⌜ x ≡ regexStart rd r first ⌝ }
 {
-    first
+    match rd {
+        Reading::Old => first,
+        Reading::Kept => r,
+    }
 }
 
-// ODDITY: so it needs one hash fewer to close than it has. The old reading does so; a later reading may choose otherwise.
-fn closing_hashes(m: usize) -> usize
-    ensures { λ r. ⌜ r ≡ closingHashes m ⌝ }
+// One hash fewer.
+fn less(m: usize) -> usize
+    ensures { λ r. ⌜ r ≡ m - 1 ⌝ }
 {
     if m == 0 {
         return 0;
@@ -158,14 +171,24 @@ fn closing_hashes(m: usize) -> usize
     m - 1
 }
 
+// ODDITY, where the readings differ: so it needs, in the old reading, one hash fewer to close than it has.
+fn closing_hashes(rd: Reading, m: usize) -> usize
+    ensures { λ r. ⌜ r ≡ closingHashes rd m ⌝ }
+{
+    match rd {
+        Reading::Old => less(m),
+        Reading::Kept => m,
+    }
+}
+
 // After m hashes of what starts at o: a regex, a word, or neither.
-fn body_skip(s: &[u8], at: usize, o: usize, m: usize) -> Skip
-    ensures { λ r. ⌜ r ≡ bodySkip o m (chars (drop at (now (s .entry)))) at ⌝ }
+fn body_skip(s: &[u8], rd: Reading, at: usize, o: usize, m: usize) -> Skip
+    ensures { λ r. ⌜ r ≡ bodySkip rd o m (chars (drop at (now (s .entry)))) at ⌝ }
 {
     match utf8::char_at(s, at) {
         Sight::Char { code, width } => {
             if code == signs::DOUBLE_QUOTE {
-                return skip_more(1, scan::regex_skip(s, at + width, o, closing_hashes(m)));
+                return skip_more(1, scan::regex_skip(s, at + width, o, closing_hashes(rd, m)));
             }
             if unicode::is_identifier_start(code) {
                 return skip_more(1, scan::up_to(scan::word(s, at + width)));
@@ -177,11 +200,11 @@ fn body_skip(s: &[u8], at: usize, o: usize, m: usize) -> Skip
 }
 
 // Hashes from a place, of what starts at o, and what stands after them: the part of the Rust's `regex_literal` that follows the r.
-fn hash_skip(s: &[u8], at: usize, o: usize) -> Skip
-    ensures { λ r. ⌜ r ≡ hashSkip o (chars (drop at (now (s .entry)))) at ⌝ }
+fn hash_skip(s: &[u8], rd: Reading, at: usize, o: usize) -> Skip
+    ensures { λ r. ⌜ r ≡ hashSkip rd o (chars (drop at (now (s .entry)))) at ⌝ }
 {
     match scan::take_until(s, at, Sought::Hashes) {
-        Found::At { place, passed } => skip_more(passed, body_skip(s, place, o, passed)),
+        Found::At { place, passed } => skip_more(passed, body_skip(s, rd, place, o, passed)),
         Found::Nothing { place, passed } => {
             lost(Code::UnterminatedStringLiteral, o, place, passed)
         }
@@ -189,11 +212,11 @@ fn hash_skip(s: &[u8], at: usize, o: usize) -> Skip
 }
 
 // After a letter r at r.
-fn r_skip(s: &[u8], at: usize, r: usize) -> Skip
-    ensures { λ x. ⌜ x ≡ rSkip r (chars (drop at (now (s .entry)))) at ⌝ }
+fn r_skip(s: &[u8], rd: Reading, at: usize, r: usize) -> Skip
+    ensures { λ x. ⌜ x ≡ rSkip rd r (chars (drop at (now (s .entry)))) at ⌝ }
 {
     if scan::is_next(s, at, signs::HASH) {
-        return hash_skip(s, at, regex_start(r, at));
+        return hash_skip(s, rd, at, regex_start(rd, r, at));
     }
     Skip::Past(at, 0)
 }
@@ -223,18 +246,18 @@ fn is_close(c: u32) -> bool
 }
 
 // What the character c at a place does, with b brackets open, if it is no slash. Any closer answers any opener.
-fn code_turn(s: &[u8], at: usize, next: usize, c: u32, b: usize) -> Turn
+fn code_turn(s: &[u8], rd: Reading, at: usize, next: usize, c: u32, b: usize) -> Turn
     requires { ⌜ (b < 9223372036854775808) × (c ≡ '/ → ⊥) ⌝ }
-    ensures { λ r. ⌜ r ≡ codeTurn b c (chars (drop next (now (s .entry)))) at next ⌝ }
+    ensures { λ r. ⌜ r ≡ codeTurn rd b c (chars (drop next (now (s .entry)))) at next ⌝ }
 {
     if c == signs::DOUBLE_QUOTE {
         return scan::to_turn(b, scan::string_skip(s, next, at));
     }
     if c == signs::QUOTE {
-        return scan::to_turn(b, take_lifetime_or_character_literal(s, next, at));
+        return scan::to_turn(b, take_lifetime_or_character_literal(s, rd, next, at));
     }
     if c == signs::LOWER_R {
-        return scan::to_turn(b, r_skip(s, next, at));
+        return scan::to_turn(b, r_skip(s, rd, next, at));
     }
     if is_open(c) {
         return Turn::Pass(next, 0, b + 1);
@@ -270,15 +293,15 @@ fn slash_turn(s: &[u8], at: usize, next: usize, b: usize) -> Turned
 }
 
 // What the character c at a place does, with b brackets open, and how deep the comment goes that it starts.
-fn turn(s: &[u8], at: usize, next: usize, c: u32, b: usize) -> Turned
+fn turn(s: &[u8], rd: Reading, at: usize, next: usize, c: u32, b: usize) -> Turned
     requires { ⌜ b < 9223372036854775808 ⌝ }
-    ensures { λ r. ⌜ (r .turn ≡ codeTurn b c (chars (drop next (now (s .entry)))) at next) × (r .depth ≡ coverDepth c (chars (drop next (now (s .entry))))) ⌝ }
+    ensures { λ r. ⌜ (r .turn ≡ codeTurn rd b c (chars (drop next (now (s .entry)))) at next) × (r .depth ≡ coverDepth c (chars (drop next (now (s .entry))))) ⌝ }
 {
     if c == signs::SLASH {
         return slash_turn(s, at, next, b);
     }
     Turned {
-        turn: code_turn(s, at, next, c, b),
+        turn: code_turn(s, rd, at, next, c, b),
         depth: 0,
     }
 }
@@ -306,9 +329,9 @@ fn index(x: u8) -> usize
 }
 
 // The loop of `code`, with a table of all bytes: a dot for each one that changes nothing.
-fn code_by<'a>(stops: &'a [u8], s: &'a [u8], at: usize, start: usize) -> Deep
+fn code_by<'a>(stops: &'a [u8], s: &'a [u8], rd: Reading, at: usize, start: usize) -> Deep
     requires { ⌜ now stops ≡ codeStops ⌝ }
-    ensures { λ r. ⌜ (r .skip ≡ codeEnd start (chars (drop at (now (s .entry)))) at) × (r .depth ≡ codeDepth (chars (drop at (now (s .entry)))) at) ⌝ }
+    ensures { λ r. ⌜ (r .skip ≡ codeEnd rd start (chars (drop at (now (s .entry)))) at) × (r .depth ≡ codeDepth rd (chars (drop at (now (s .entry)))) at) ⌝ }
 {
     let mut p = at;
     let mut n: usize = 0;
@@ -320,7 +343,7 @@ fn code_by<'a>(stops: &'a [u8], s: &'a [u8], at: usize, start: usize) -> Deep
         p = to;
         match utf8::char_at(s, p) {
             Sight::Char { code, width } => {
-                let x = turn(s, p, p + width, code, b);
+                let x = turn(s, rd, p, p + width, code, b);
                 let what = x.turn;
                 match what {
                     Turn::Stop => {
@@ -361,12 +384,13 @@ fn code_by<'a>(stops: &'a [u8], s: &'a [u8], at: usize, start: usize) -> Deep
 
 // The Rust's `code`: where the code from a place ends, for a token that starts at `start`, and the greatest depth of the comments in it. The table is
 // lent once for the whole loop.
-pub fn code(s: &[u8], at: usize, start: usize) -> Deep
-    ensures { λ r. ⌜ (r .skip ≡ codeEnd start (chars (drop at (now (s .entry)))) at) × (r .depth ≡ codeDepth (chars (drop at (now (s .entry)))) at) ⌝ }
+pub fn code(s: &[u8], rd: Reading, at: usize, start: usize) -> Deep
+    ensures { λ r. ⌜ (r .skip ≡ codeEnd rd start (chars (drop at (now (s .entry)))) at) × (r .depth ≡ codeDepth rd (chars (drop at (now (s .entry)))) at) ⌝ }
 {
     code_by(
         b"..................................#....###..#..#...........#...............................#.#....................#........#.#..################################################################################################################################",
         s,
+        rd,
         at,
         start,
     )

@@ -7,6 +7,7 @@ use mathlib.Core.List.{List, [], _∷_, _++_, append-assoc, append-nil}
 use mathlib.Core.Path.{_≡_, refl, sym, ap, _∙_}
 use lib.ListN.{drop, length, length-append, length-drop, take, take-append-drop}
 use lib.Seq.{drop-at, drop-drop, length-take-le, take-at}
+use Rattle.record.specs.declared.Reading.{Reading}
 use Rattle.run.specs.declared.Group.{Group}
 use Rattle.text.specs.Bytes.{join}
 use Rattle.text.specs.Lay.{Laid, lay, layAll}
@@ -50,11 +51,11 @@ lay-join (l ∷ ls) d at h =
     (ap (λ (x : List ℕ). x ++ j ++ drop (n + length j) all) k ∙ ap (λ (x : List ℕ). front ++ j ++ x) g ∙ ap (λ (x : List ℕ). x ++ drop (at + length (l ++ j)) d) (append-assoc (take at d) l j))
 
 -- so of `list`, in a buffer as `teyk` has it: nothing is left out
-pub list-held : (g : Group) (p : ℕ) (headed : Bool) (name s d : List ℕ) → length name ≤ 4096 → partRoom ≤ length d
-    → layAll d (To 0) (listPart g p headed name s) ≡ laid (length (join (listPart g p headed name s))) (join (listPart g p headed name s) ++ drop (length (join (listPart g p headed name s))) d)
-list-held g p headed name s d h k =
-    let b = join (listPart g p headed name s) in
-    let f = list-part-fits g p headed name s h in
+pub list-held : (rd : Reading) (g : Group) (p : ℕ) (headed : Bool) (name s d : List ℕ) → length name ≤ 4096 → partRoom ≤ length d
+    → layAll d (To 0) (listPart rd g p headed name s) ≡ laid (length (join (listPart rd g p headed name s))) (join (listPart rd g p headed name s) ++ drop (length (join (listPart rd g p headed name s))) d)
+list-held rd g p headed name s d h k =
+    let b = join (listPart rd g p headed name s) in
+    let f = list-part-fits rd g p headed name s h in
     let e : 0 + length b ≡ length b = omega arith in
-    lay-join (listPart g p headed name s) d 0 (omega (arith, f, k))
+    lay-join (listPart rd g p headed name s) d 0 (omega (arith, f, k))
     ∙ same (0 + length b) (length b) (b ++ drop (0 + length b) d) (b ++ drop (length b) d) e (ap (λ (m : ℕ). b ++ drop m d) e)

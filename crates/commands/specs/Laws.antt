@@ -20,8 +20,9 @@ use Rattle.record.specs.Records.{over, refusal}
 use Rattle.record.specs.declared.Checked.{Checked}
 use Rattle.record.specs.declared.Checked.the-variants.{Passed, Refused as Stopped}
 use Rattle.record.specs.declared.Code.the-variants.{BadRecord, TooLong}
+use Rattle.record.specs.declared.Reading.{Reading}
 use Rattle.record.specs.declared.Token.{Token}
-use Rattle.reading.specs.Answers.{startState}
+use Rattle.reading.specs.Answers.{startIn}
 use Rattle.reading.specs.AnyCall.{room-from}
 use Rattle.reading.specs.Next.{next}
 use Rattle.reading.specs.Run.{runFrom, runWith, stopped}
@@ -282,16 +283,16 @@ unfolding ranWith
 stored-room s shift limit room t r e = rw e (tokens-room s shift limit room t)
 
 -- what `records_of` leaves at each size
-pub five-of : (s old recs : List ℕ) (t : Tokenizer) (ran : Ran) → t ≡ startState → ran ≡ ranOf s 0 highest room t → recs ≡ fitted (numbersAll (wholeRun s 0 highest room t .tokens)) old
-    → 294912 ≡ length old → (ran ≡ ranOf s 0 highest room startState) × (recs ≡ over (groups Five (runTokens s)) old)
-five-of s old recs t ran start is stored wide =
-    let l = tokens-room s 0 highest room startState in
-    (is ∙ ap (ranOf s 0 highest room) start, stored ∙ ap (λ (u : Tokenizer). fitted (numbersAll (wholeRun s 0 highest room u .tokens)) old) start ∙ fits (runTokens s) old (omega (arith, l, wide)))
+pub five-of : (rd : Reading) (s old recs : List ℕ) (t : Tokenizer) (ran : Ran) → t ≡ startIn rd → ran ≡ ranOf s 0 highest room t → recs ≡ fitted (numbersAll (wholeRun s 0 highest room t .tokens)) old
+    → 294912 ≡ length old → (ran ≡ ranOf s 0 highest room (startIn rd)) × (recs ≡ over (groups Five (runTokens rd s)) old)
+five-of rd s old recs t ran start is stored wide =
+    let l = tokens-room s 0 highest room (startIn rd) in
+    (is ∙ ap (ranOf s 0 highest room) start, stored ∙ ap (λ (u : Tokenizer). fitted (numbersAll (wholeRun s 0 highest room u .tokens)) old) start ∙ fits (runTokens rd s) old (omega (arith, l, wide)))
 
-pub nine-of : (s old recs : List ℕ) (t : Tokenizer) (ran : Ran) → t ≡ startState → ran ≡ ranOf s 0 highest (length old / 9) t
+pub nine-of : (rd : Reading) (s old recs : List ℕ) (t : Tokenizer) (ran : Ran) → t ≡ startIn rd → ran ≡ ranOf s 0 highest (length old / 9) t
     → recs ≡ over (groups Nine (wholeRun s 0 highest (length old / 9) t .tokens)) old → 294912 ≡ length old
-    → (ran ≡ ranOf s 0 highest room startState) × (recs ≡ over (groups Nine (runTokens s)) old)
-nine-of s old recs t ran start is stored wide =
+    → (ran ≡ ranOf s 0 highest room (startIn rd)) × (recs ≡ over (groups Nine (runTokens rd s)) old)
+nine-of rd s old recs t ran start is stored wide =
     let r : length old / 9 ≡ room = omega (arith, wide) in
     (is ∙ rw (r, start) refl, stored ∙ rw (r, start) refl)
 
@@ -300,45 +301,45 @@ pub stored-fits : (g : Group) (n l : ℕ) → n ≤ room → 294912 ≡ l → si
 stored-fits Five n l h k = omega arith
 stored-fits Nine n l h k = omega arith
 
-pub how-is : (s : List ℕ) (t : Tokenizer) (ran : Ran) → t ≡ startState → ran ≡ ranOf s 0 highest room t → ran .how ≡ ranOf s 0 highest room startState .how
-how-is s t ran start is = ap (λ (r : Ran). r .how) (is ∙ ap (ranOf s 0 highest room) start)
+pub how-is : (rd : Reading) (s : List ℕ) (t : Tokenizer) (ran : Ran) → t ≡ startIn rd → ran ≡ ranOf s 0 highest room t → ran .how ≡ ranOf s 0 highest room (startIn rd) .how
+how-is rd s t ran start is = ap (λ (r : Ran). r .how) (is ∙ ap (ranOf s 0 highest room) start)
 
-module _ (g : Group) (s old recs : List ℕ) (ran : Ran) (is : ran ≡ ranOf s 0 highest room startState) (stored : recs ≡ over (groups g (runTokens s)) old) where
-  count : ran .stored ≡ length (runTokens s)
+module _ (rd : Reading) (g : Group) (s old recs : List ℕ) (ran : Ran) (is : ran ≡ ranOf s 0 highest room (startIn rd)) (stored : recs ≡ over (groups g (runTokens rd s)) old) where
+  count : ran .stored ≡ length (runTokens rd s)
   unfolding ranWith
   count = ap (λ (r : Ran). r .stored) is
 
-  chunk-of : (p : ℕ) → chunkLines g p (ran .stored) recs ≡ map (recordLine g) (take chunk (drop (chunk * p) (runTokens s)))
-  chunk-of p = chunk-are g p (runTokens s) old recs (ran .stored) stored count
+  chunk-of : (p : ℕ) → chunkLines g p (ran .stored) recs ≡ map (recordLine g) (take chunk (drop (chunk * p) (runTokens rd s)))
+  chunk-of p = chunk-are g p (runTokens rd s) old recs (ran .stored) stored count
 
   module _ (p : ℕ) (errs : List (List ℕ)) (d : List ℕ) (from : Came) (f : List ℕ) where
     pub run-last : (c : Came) (e : List ℕ) (r : Came) (x : List ℕ) (q : Came) (y : List ℕ) → p ≡ ran .stored / chunk
         → Is (layAll d from (chunkLines g p (ran .stored) recs)) c e → Is (lay e c (ranLine g ran)) r x → Is (layAll f (To 0) errs) q y
-        → SaidFrom g p (runTokens s) (runLast g s) errs d from f r x q y false
-    run-last c e r x q y h a b k = end-part g p (runTokens s) (runLast g s) errs d from f (ran .stored) c e r x q y count h (rw (chunk-of p) at a) (rw is at b) k
+        → SaidFrom g p (runTokens rd s) (runLast rd g s) errs d from f r x q y false
+    run-last c e r x q y h a b k = end-part g p (runTokens rd s) (runLast rd g s) errs d from f (ran .stored) c e r x q y count h (rw (chunk-of p) at a) (rw is at b) k
 
     pub run-mid : (r : Came) (x : List ℕ) → (p ≡ ran .stored / chunk → ⊥) → Is (layAll d from (chunkLines g p (ran .stored) recs)) r x
-        → SaidFrom g p (runTokens s) (runLast g s) errs d from f r x (To 0) f (ltb p (ran .stored / chunk))
-    run-mid r x h a = mid-part g p (runTokens s) (runLast g s) errs d from f (ran .stored) r x count h (rw (chunk-of p) at a)
+        → SaidFrom g p (runTokens rd s) (runLast rd g s) errs d from f r x (To 0) f (ltb p (ran .stored / chunk))
+    run-mid r x h a = mid-part g p (runTokens rd s) (runLast rd g s) errs d from f (ran .stored) r x count h (rw (chunk-of p) at a)
 
 -- ---- the command `list`
-module _ (g : Group) (headed : Bool) (name s : List ℕ) (p : ℕ) (d : List ℕ) (c : Came) (e f : List ℕ) (r : Came) (x : List ℕ) (q : Came) (y : List ℕ) (m : Bool)
+module _ (rd : Reading) (g : Group) (headed : Bool) (name s : List ℕ) (p : ℕ) (d : List ℕ) (c : Came) (e f : List ℕ) (r : Came) (x : List ℕ) (q : Came) (y : List ℕ) (m : Bool)
     (h : Is (layAll d (To 0) (headerLines (headed && eqb p 0) name)) c e) where
   pub list-long : textLimit < length s → SaidFrom g p [] (errorLine (codeNumber TooLong) 0 0) (limitLines name textLimit) e c f r x q y m
-      → Left (layAll d (To 0) (listPart g p headed name s)) (layAll f (To 0) (listPartErr p name s)) r x q y × (m ≡ listMore p s)
+      → Left (layAll d (To 0) (listPart rd g p headed name s)) (layAll f (To 0) (listPartErr rd p name s)) r x q y × (m ≡ listMore rd p s)
   unfolding listErr listLast listMore listPart listPartErr listTokens
   list-long l k = rw (lt-ltb textLimit (length s) l) (head-on g headed name p [] (errorLine (codeNumber TooLong) 0 0) (limitLines name textLimit) d c e f r x q y m h k)
 
-  pub list-run : length s ≤ textLimit → SaidFrom g p (runTokens s) (runLast g s) (peopleLines name s (ranOf s 0 highest room startState .how)) e c f r x q y m
-      → Left (layAll d (To 0) (listPart g p headed name s)) (layAll f (To 0) (listPartErr p name s)) r x q y × (m ≡ listMore p s)
+  pub list-run : length s ≤ textLimit → SaidFrom g p (runTokens rd s) (runLast rd g s) (peopleLines name s (ranOf s 0 highest room (startIn rd) .how)) e c f r x q y m
+      → Left (layAll d (To 0) (listPart rd g p headed name s)) (layAll f (To 0) (listPartErr rd p name s)) r x q y × (m ≡ listMore rd p s)
   unfolding listErr listLast listMore listPart listPartErr listTokens
-  list-run l k = rw (le-ltb textLimit (length s) l) (head-on g headed name p (runTokens s) (runLast g s) (peopleLines name s (ranOf s 0 highest room startState .how)) d c e f r x q y m h k)
+  list-run l k = rw (le-ltb textLimit (length s) l) (head-on g headed name p (runTokens rd s) (runLast rd g s) (peopleLines name s (ranOf s 0 highest room (startIn rd) .how)) d c e f r x q y m h k)
 
 -- no listing has more than five parts
-pub few-parts : (s : List ℕ) → lastPart (listTokens s) ≤ 4
+pub few-parts : (rd : Reading) (s : List ℕ) → lastPart (listTokens rd s) ≤ 4
 unfolding listTokens
-few-parts s = go (ltb textLimit (length s))
+few-parts rd s = go (ltb textLimit (length s))
   where
-    go : (b : Bool) → lastPart (cond b [] (runTokens s)) ≤ 4
+    go : (b : Bool) → lastPart (cond b [] (runTokens rd s)) ≤ 4
     go true = omega arith
-    go false = let h = tokens-room s 0 highest room startState in omega (arith, h)
+    go false = let h = tokens-room s 0 highest room (startIn rd) in omega (arith, h)

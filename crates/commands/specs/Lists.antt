@@ -8,9 +8,10 @@ use lib.ListN.{drop, getD, length}
 use Rattle.record.specs.Numbers.{codeNumber, kindNumber}
 use Rattle.record.specs.Records.{toldNumber}
 use Rattle.record.specs.declared.Code.the-variants.{TooLong}
+use Rattle.record.specs.declared.Reading.{Reading}
 use Rattle.record.specs.declared.Refusal.{Refusal}
 use Rattle.record.specs.declared.Token.{Token}
-use Rattle.reading.specs.Answers.{startState}
+use Rattle.reading.specs.Answers.{startIn}
 use Rattle.reading.specs.declared.Outcome.{Outcome}
 use Rattle.reading.specs.declared.Outcome.the-variants.{Ended, Refused, Running}
 use Rattle.run.specs.Checked.{ranOf, wholeRun}
@@ -53,12 +54,12 @@ lastLine g Running advances depth = finalLine g advances depth
 abbrev pub ranLine : Group → Ran → List ℕ
 ranLine g r = lastLine g (r .how) (r .advances) (r .«last_depth»)
 
--- the listing of a text, line by line; of five numbers 01's
-unfoldable pub runLines : Group → List ℕ → List (List ℕ)
-runLines g s = map (recordLine g) (wholeRun s 0 highest room startState .tokens) ++ (ranLine g (ranOf s 0 highest room startState) ∷ [])
+-- the listing of a text in a reading, line by line; in the old one, of five numbers, 01's
+unfoldable pub runLines : Reading → Group → List ℕ → List (List ℕ)
+runLines rd g s = map (recordLine g) (wholeRun s 0 highest room (startIn rd) .tokens) ++ (ranLine g (ranOf s 0 highest room (startIn rd)) ∷ [])
 
-unfoldable pub listing : Group → List ℕ → List (List ℕ)
-listing g s = cond (ltb textLimit (length s)) (errorLine (codeNumber TooLong) 0 0 ∷ []) (runLines g s)
+unfoldable pub listing : Reading → Group → List ℕ → List (List ℕ)
+listing rd g s = cond (ltb textLimit (length s)) (errorLine (codeNumber TooLong) 0 0 ∷ []) (runLines rd g s)
 
 -- where several files are listed, each stands under its name
 unfoldable pub headerLines : Bool → List ℕ → List (List ℕ)
@@ -86,11 +87,11 @@ pub record Left (out err : Laid) (to : Came) (held : List ℕ) (to′ : Came) (h
   pub err-held : held′ ≡ err .held
 
 -- ---- the command `list`
-unfoldable pub listOut : Group → Bool → List ℕ → List ℕ → List (List ℕ)
-listOut g headed name s = headerLines headed name ++ listing g s
+unfoldable pub listOut : Reading → Group → Bool → List ℕ → List ℕ → List (List ℕ)
+listOut rd g headed name s = headerLines headed name ++ listing rd g s
 
-unfoldable pub listErr : List ℕ → List ℕ → List (List ℕ)
-listErr name s = cond (ltb textLimit (length s)) (limitLines name textLimit) (peopleLines name s (ranOf s 0 highest room startState .how))
+unfoldable pub listErr : Reading → List ℕ → List ℕ → List (List ℕ)
+listErr rd name s = cond (ltb textLimit (length s)) (limitLines name textLimit) (peopleLines name s (ranOf s 0 highest room (startIn rd) .how))
 
 -- ---- records as the code has them: groups of numbers
 abbrev pub numberLine : Group → List ℕ → List ℕ

@@ -6,8 +6,9 @@ use lib.Dec.{eqb, ltb}
 use lib.ListN.{drop, length, take}
 use Rattle.record.specs.Numbers.{codeNumber}
 use Rattle.record.specs.declared.Code.the-variants.{TooLong}
+use Rattle.record.specs.declared.Reading.{Reading}
 use Rattle.record.specs.declared.Token.{Token}
-use Rattle.reading.specs.Answers.{startState}
+use Rattle.reading.specs.Answers.{startIn}
 use Rattle.run.specs.Checked.{ranOf, wholeRun}
 use Rattle.run.specs.Numbers.{sizeOf}
 use Rattle.run.specs.declared.Group.{Group}
@@ -36,29 +37,29 @@ firstParts zero part = []
 firstParts (suc k) part = firstParts k part ++ part k
 
 -- ---- the command `list`
-abbrev pub runTokens : List ℕ → List Token
-runTokens s = wholeRun s 0 highest room startState .tokens
+abbrev pub runTokens : Reading → List ℕ → List Token
+runTokens rd s = wholeRun s 0 highest room (startIn rd) .tokens
 
-abbrev pub runLast : Group → List ℕ → List ℕ
-runLast g s = ranLine g (ranOf s 0 highest room startState)
+abbrev pub runLast : Reading → Group → List ℕ → List ℕ
+runLast rd g s = ranLine g (ranOf s 0 highest room (startIn rd))
 
 -- a text that is too long has no records
-unfoldable pub listTokens : List ℕ → List Token
-listTokens s = cond (ltb textLimit (length s)) [] (runTokens s)
+unfoldable pub listTokens : Reading → List ℕ → List Token
+listTokens rd s = cond (ltb textLimit (length s)) [] (runTokens rd s)
 
-unfoldable pub listLast : Group → List ℕ → List ℕ
-listLast g s = cond (ltb textLimit (length s)) (errorLine (codeNumber TooLong) 0 0) (runLast g s)
+unfoldable pub listLast : Reading → Group → List ℕ → List ℕ
+listLast rd g s = cond (ltb textLimit (length s)) (errorLine (codeNumber TooLong) 0 0) (runLast rd g s)
 
-unfoldable pub listPart : Group → ℕ → Bool → List ℕ → List ℕ → List (List ℕ)
-listPart g p headed name s = onlyIn 0 p (headerLines headed name) ++ partLines g p (listTokens s) (listLast g s)
+unfoldable pub listPart : Reading → Group → ℕ → Bool → List ℕ → List ℕ → List (List ℕ)
+listPart rd g p headed name s = onlyIn 0 p (headerLines headed name) ++ partLines g p (listTokens rd s) (listLast rd g s)
 
 -- for people, in the last part
-unfoldable pub listPartErr : ℕ → List ℕ → List ℕ → List (List ℕ)
-listPartErr p name s = onlyIn (lastPart (listTokens s)) p (listErr name s)
+unfoldable pub listPartErr : Reading → ℕ → List ℕ → List ℕ → List (List ℕ)
+listPartErr rd p name s = onlyIn (lastPart (listTokens rd s)) p (listErr rd name s)
 
 -- whether a part follows
-unfoldable pub listMore : ℕ → List ℕ → Bool
-listMore p s = ltb p (lastPart (listTokens s))
+unfoldable pub listMore : Reading → ℕ → List ℕ → Bool
+listMore rd p s = ltb p (lastPart (listTokens rd s))
 
 -- ---- a part of n records as the code has them: groups of numbers
 unfoldable pub chunkLines : Group → ℕ → ℕ → List ℕ → List (List ℕ)

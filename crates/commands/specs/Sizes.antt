@@ -12,10 +12,11 @@ use Rattle.utf8.specs.Picks.{tests}
 use Rattle.record.specs.Numbers.{codeNumber, kindNumber}
 use Rattle.record.specs.Records.{toldNumber}
 use Rattle.record.specs.declared.Code.the-variants.{TooLong}
+use Rattle.record.specs.declared.Reading.{Reading}
 use Rattle.record.specs.declared.Token.{Token}
 use Rattle.scan.specs.Far.{short}
 use Rattle.scan.specs.Until.{left}
-use Rattle.reading.specs.Answers.{startState}
+use Rattle.reading.specs.Answers.{startIn}
 use Rattle.reading.specs.Next.{next}
 use Rattle.reading.specs.declared.Outcome.{Outcome}
 use Rattle.reading.specs.declared.Outcome.the-variants.{Ended, Refused, Running}
@@ -90,15 +91,15 @@ Small (t ∷ ts) = Fits t × Small ts
 left-short : (s : List ℕ) (at : ℕ) → length (left s at) ≤ length s
 left-short s at = let a = short (drop at s) 0 (omega arith) in let b = length-drop at s in omega (arith, a, b)
 
-module _ (s : List ℕ) (few : length s ≤ textLimit) where
-  small : (from to at : ℕ) (ts : List Token) → to ≤ textLimit → Ordered from to ts → Called s 0 at ts → Small ts
+module _ (rd : Reading) (s : List ℕ) (few : length s ≤ textLimit) where
+  small : (from to at : ℕ) (ts : List Token) → to ≤ textLimit → Ordered from to ts → Called rd s 0 at ts → Small ts
   small from to at [] h o c = tt
   small from to at (t ∷ ts) h o c =
-      let d = next-small (left s at) at (c .0 .token) (c .0 .got) in
+      let d = next-small rd (left s at) at (c .0 .token) (c .0 .got) in
       let l = left-short s at in
       let g : toldNumber (t .«gap_depth») ≤ textLimit = rw (c .0 .shifted, d .2) (omega (arith, d .0, l, few)) in
       let k : toldNumber (t .«code_depth») ≤ textLimit = rw (c .0 .shifted, d .3) (omega (arith, d .1, l, few)) in
-      (record { start-fits = omega (arith, h, o .1, o .2); end-fits = omega (arith, h, o .2); gap-fits = g; code-fits = k }, small (t .end) to (next (left s at) at .at) ts h (o .3) (c .1))
+      (record { start-fits = omega (arith, h, o .1, o .2); end-fits = omega (arith, h, o .2); gap-fits = g; code-fits = k }, small (t .end) to (next rd (left s at) at .at) ts h (o .3) (c .1))
 
 small-take : (k : ℕ) (ts : List Token) → Small ts → Small (take k ts)
 small-take zero ts s = tt
@@ -199,30 +200,30 @@ part-short g p ts last s h =
     let e = one-line last in
     omega (arith, a, b, c, d, e, h)
 
-tokens-small : (s : List ℕ) → Small (listTokens s)
+tokens-small : (rd : Reading) (s : List ℕ) → Small (listTokens rd s)
 unfolding listTokens
-tokens-small s = go (ltb textLimit (length s)) refl
+tokens-small rd s = go (ltb textLimit (length s)) refl
   where
-    go : (b : Bool) → ltb textLimit (length s) ≡ b → Small (cond b [] (runTokens s))
+    go : (b : Bool) → ltb textLimit (length s) ≡ b → Small (cond b [] (runTokens rd s))
     go true e = tt
     go false e =
         let h = ltb-false textLimit (length s) e in
-        small s (omega (arith, h)) _ (length s + 0) _ (runTokens s) (omega (arith, h)) (ordered s 0 highest room startState) (called s 0 highest room startState)
+        small rd s (omega (arith, h)) _ (length s + 0) _ (runTokens rd s) (omega (arith, h)) (ordered s 0 highest room (startIn rd)) (called s 0 highest room (startIn rd))
 
-list-last-short : (g : Group) (s : List ℕ) → length (listLast g s) ≤ 90
+list-last-short : (rd : Reading) (g : Group) (s : List ℕ) → length (listLast rd g s) ≤ 90
 unfolding listLast
-list-last-short g s = go (ltb textLimit (length s))
+list-last-short rd g s = go (ltb textLimit (length s))
   where
-    go : (b : Bool) → length (cond b (errorLine (codeNumber TooLong) 0 0) (runLast g s)) ≤ 90
+    go : (b : Bool) → length (cond b (errorLine (codeNumber TooLong) 0 0) (runLast rd g s)) ≤ 90
     go true = error-short (codeNumber TooLong) 0 0
-    go false = let r = ranOf s 0 highest room startState in last-short g (r .how) (r .advances) (r .«last_depth»)
+    go false = let r = ranOf s 0 highest room (startIn rd) in last-short g (r .how) (r .advances) (r .«last_depth»)
 
--- THE LAW, for every name that `teyk` reads
-pub list-part-fits : (g : Group) (p : ℕ) (headed : Bool) (name s : List ℕ) → length name ≤ 4096 → length (join (listPart g p headed name s)) ≤ partRoom
+-- THE LAW, in either reading, for every name that `teyk` reads
+pub list-part-fits : (rd : Reading) (g : Group) (p : ℕ) (headed : Bool) (name s : List ℕ) → length name ≤ 4096 → length (join (listPart rd g p headed name s)) ≤ partRoom
 unfolding listPart
-list-part-fits g p headed name s h =
-    let a = join-length (onlyIn 0 p (headerLines headed name)) (partLines g p (listTokens s) (listLast g s)) in
+list-part-fits rd g p headed name s h =
+    let a = join-length (onlyIn 0 p (headerLines headed name)) (partLines g p (listTokens rd s) (listLast rd g s)) in
     let b = only-short 0 p (headerLines headed name) in
     let c = header-short headed name in
-    let d = part-short g p (listTokens s) (listLast g s) (tokens-small s) (list-last-short g s) in
+    let d = part-short g p (listTokens rd s) (listLast rd g s) (tokens-small rd s) (list-last-short rd g s) in
     omega (arith, a, b, c, d, h)

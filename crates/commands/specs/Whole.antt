@@ -10,6 +10,7 @@ use lib.ListN.{drop, length, take}
 use lib.Seq.{take-add, take-all}
 use Rattle.record.specs.Numbers.{codeNumber}
 use Rattle.record.specs.declared.Code.the-variants.{TooLong}
+use Rattle.record.specs.declared.Reading.{Reading}
 use Rattle.record.specs.declared.Token.{Token}
 use Rattle.run.specs.declared.Group.{Group}
 use Rattle.text.specs.Lines.{errorLine}
@@ -66,15 +67,15 @@ module _ (g : Group) (head : List (List ℕ)) (ts : List Token) (last : List ℕ
       ∙ ap (λ (us : List Token). head ++ (map (recordLine g) us ++ tail (lastPart ts))) (take-all (chunk * suc (lastPart ts)) ts (omega arith))
       ∙ ap (λ (ls : List (List ℕ)). head ++ (map (recordLine g) ts ++ ls)) (only-here (lastPart ts) (last ∷ []))
 
-list-whole : (g : Group) (s : List ℕ) → map (recordLine g) (listTokens s) ++ (listLast g s ∷ []) ≡ listing g s
+list-whole : (rd : Reading) (g : Group) (s : List ℕ) → map (recordLine g) (listTokens rd s) ++ (listLast rd g s ∷ []) ≡ listing rd g s
 unfolding listLast listTokens listing runLines
-list-whole g s = go (ltb textLimit (length s))
+list-whole rd g s = go (ltb textLimit (length s))
   where
-    go : (b : Bool) → map (recordLine g) (cond b [] (runTokens s)) ++ (cond b (errorLine (codeNumber TooLong) 0 0) (runLast g s) ∷ []) ≡ cond b (errorLine (codeNumber TooLong) 0 0 ∷ []) (map (recordLine g) (runTokens s) ++ (runLast g s ∷ []))
+    go : (b : Bool) → map (recordLine g) (cond b [] (runTokens rd s)) ++ (cond b (errorLine (codeNumber TooLong) 0 0) (runLast rd g s) ∷ []) ≡ cond b (errorLine (codeNumber TooLong) 0 0 ∷ []) (map (recordLine g) (runTokens rd s) ++ (runLast rd g s ∷ []))
     go true = refl
     go false = refl
 
--- THE THEOREM for `list`
-pub listing-parts : (g : Group) (headed : Bool) (name s : List ℕ) → firstParts (suc (lastPart (listTokens s))) (λ p. listPart g p headed name s) ≡ listOut g headed name s
+-- THE THEOREM for `list`, in either reading
+pub listing-parts : (rd : Reading) (g : Group) (headed : Bool) (name s : List ℕ) → firstParts (suc (lastPart (listTokens rd s))) (λ p. listPart rd g p headed name s) ≡ listOut rd g headed name s
 unfolding listOut listPart
-listing-parts g headed name s = all-parts g (headerLines headed name) (listTokens s) (listLast g s) ∙ ap (λ (ls : List (List ℕ)). headerLines headed name ++ ls) (list-whole g s)
+listing-parts rd g headed name s = all-parts g (headerLines headed name) (listTokens rd s) (listLast rd g s) ∙ ap (λ (ls : List (List ℕ)). headerLines headed name ++ ls) (list-whole rd g s)

@@ -2,6 +2,7 @@
 // reads, calls this, and writes.
 use reading::Outcome;
 use record::Code;
+use record::Reading;
 use record::Refusal;
 use run::Group;
 use run::Ran;
@@ -14,7 +15,7 @@ ghost use Rattle.record.specs.Numbers.{codeNumber};
 ghost use Rattle.record.specs.Records.{over};
 ghost use Rattle.text.specs.Lay.{lay, layAll};
 ghost use Rattle.text.specs.declared.Came.the-variants.{To};
-ghost use Rattle.reading.specs.Answers.{startState};
+ghost use Rattle.reading.specs.Answers.{startIn};
 ghost use Rattle.run.specs.Checked.{ranOf};
 ghost use Rattle.run.specs.Numbers.{groups, sizeOf};
 ghost use Rattle.commands.specs.Lists.{Left, finalLine, headerLines, highest, limitLines, numberLine, numberLines, peopleLines, ranLine, refusedLines, room};
@@ -49,16 +50,6 @@ fn blank() -> [u64; 294912]
     [0; 294912]
 }
 
-// How many numbers a record takes.
-fn size_of(group: Group) -> usize
-    ensures { λ r. ⌜ (r ≡ sizeOf group) × (0 < r) × (r ≤ 9) ⌝ }
-{
-    match group {
-        Group::Five => 5,
-        Group::Nine => 9,
-    }
-}
-
 // The line of the record whose numbers stand from p on: of five 01's, of nine with the depths.
 fn record_onto(out: &mut [u8], from: Came, records: &[u64], group: Group, p: usize) -> Came
     requires { ⌜ p + sizeOf group ≤ length (now records) ⌝ }
@@ -83,7 +74,7 @@ fn records_onto(out: &mut [u8], from: Came, records: &[u64], group: Group, count
     requires { ⌜ sizeOf group * count ≤ length (now records) ⌝ }
     ensures { λ r. ⌜ (r ≡ layAll (now (out .entry)) from (numberLines group count (now (records .entry))) .to) × (now (out .exit) ≡ layAll (now (out .entry)) from (numberLines group count (now (records .entry))) .held) ⌝ }
 {
-    let size = size_of(group);
+    let size = run::group_size(group);
     let mut came = from;
     let mut i: usize = 0;
     while i < count {
@@ -110,7 +101,7 @@ fn chunk_onto(
     }
     let first = CHUNK * part;
     let left = count - first;
-    let start = size_of(group) * first;
+    let start = run::group_size(group) * first;
     if CHUNK < left {
         return records_onto(out, from, &records[start..], group, CHUNK);
     }
@@ -128,7 +119,7 @@ pub fn part_onto(
 ) -> Came
     ensures { λ r. ⌜ (r ≡ layAll (now (out .entry)) from (heldLines group part count (now (records .entry))) .to) × (now (out .exit) ≡ layAll (now (out .entry)) from (heldLines group part count (now (records .entry))) .held) ⌝ }
 {
-    if records.len() / size_of(group) < count {
+    if records.len() / run::group_size(group) < count {
         return from;
     }
     chunk_onto(out, from, records, group, count, part)
@@ -198,20 +189,21 @@ pub fn header_onto(out: &mut [u8], from: Came, headed: bool, name: &[u8]) -> Cam
     from
 }
 
-// A text's records as groups of numbers; those of five are copied from a local list, as they were before there were others.
-fn records_of(text: &[u8], records: &mut [u64], group: Group) -> Ran
+// A text's records in a reading, as groups of numbers; those of five are copied from a local list, as they were before there were others.
+fn records_of(text: &[u8], rd: Reading, records: &mut [u64], group: Group) -> Ran
     requires { ⌜ 294912 ≡ length (now records) ⌝ }
-    ensures { λ r. ⌜ (r ≡ ranOf (now (text .entry)) 0 highest room startState) × (now (records .exit) ≡ over (groups group (runTokens (now (text .entry)))) (now (records .entry))) ⌝ }
+    ensures { λ r. ⌜ (r ≡ ranOf (now (text .entry)) 0 highest room (startIn rd)) × (now (records .exit) ≡ over (groups group (runTokens rd (now (text .entry)))) (now (records .entry))) ⌝ }
 {
     match group {
-        Group::Five => lent::run_listed(text, 0, HIGHEST, records, tok::start()),
-        Group::Nine => run::read_numbers(text, 0, HIGHEST, records, tok::start()),
+        Group::Five => lent::run_listed(text, 0, HIGHEST, records, tok::start_in(rd)),
+        Group::Nine => run::read_numbers(text, 0, HIGHEST, records, tok::start_in(rd)),
     }
 }
 
 // A part of a text's listing, for a text that is not too long.
 fn run_onto(
     part: usize,
+    rd: Reading,
     group: Group,
     out: &mut [u8],
     from: Came,
@@ -219,10 +211,10 @@ fn run_onto(
     name: &[u8],
     text: &[u8],
 ) -> Said
-    ensures { λ r. ⌜ Left (layAll (now (out .entry)) from (partLines group part (runTokens (now (text .entry))) (runLast group (now (text .entry))))) (layAll (now (err .entry)) (To 0) (onlyIn (lastPart (runTokens (now (text .entry)))) part (peopleLines (now (name .entry)) (now (text .entry)) (ranOf (now (text .entry)) 0 highest room startState .how)))) (r .out) (now (out .exit)) (r .err) (now (err .exit)) × (r .more ≡ ltb part (lastPart (runTokens (now (text .entry))))) ⌝ }
+    ensures { λ r. ⌜ Left (layAll (now (out .entry)) from (partLines group part (runTokens rd (now (text .entry))) (runLast rd group (now (text .entry))))) (layAll (now (err .entry)) (To 0) (onlyIn (lastPart (runTokens rd (now (text .entry)))) part (peopleLines (now (name .entry)) (now (text .entry)) (ranOf (now (text .entry)) 0 highest room (startIn rd) .how)))) (r .out) (now (out .exit)) (r .err) (now (err .exit)) × (r .more ≡ ltb part (lastPart (runTokens rd (now (text .entry))))) ⌝ }
 {
     let mut records = blank();
-    let ran = records_of(text, &mut records, group);
+    let ran = records_of(text, rd, &mut records, group);
     let how = ran.how;
     let last = ran.stored / CHUNK;
     let lines = chunk_onto(out, from, &records, group, ran.stored, part);
@@ -242,9 +234,11 @@ fn run_onto(
     }
 }
 
-// The command `list`: a part of a text's listing, under its name where several are listed; of five numbers 01's, of nine with the depths.
+// The command `list`: a part of a text's listing in a reading, under its name where several are listed; of five numbers, in the old reading 01's,
+// of nine with the depths.
 pub fn list(
     part: usize,
+    rd: Reading,
     group: Group,
     headed: bool,
     name: &[u8],
@@ -252,7 +246,7 @@ pub fn list(
     out: &mut [u8],
     err: &mut [u8],
 ) -> Said
-    ensures { λ r. ⌜ Left (layAll (now (out .entry)) (To 0) (listPart group part headed (now (name .entry)) (now (text .entry)))) (layAll (now (err .entry)) (To 0) (listPartErr part (now (name .entry)) (now (text .entry)))) (r .out) (now (out .exit)) (r .err) (now (err .exit)) × (r .more ≡ listMore part (now (text .entry))) ⌝ }
+    ensures { λ r. ⌜ Left (layAll (now (out .entry)) (To 0) (listPart rd group part headed (now (name .entry)) (now (text .entry)))) (layAll (now (err .entry)) (To 0) (listPartErr rd part (now (name .entry)) (now (text .entry)))) (r .out) (now (out .exit)) (r .err) (now (err .exit)) × (r .more ≡ listMore rd part (now (text .entry))) ⌝ }
 {
     let head = header_onto(out, Came::To(0), headed & (part == 0), name);
     if TEXT_LIMIT < text.len() {
@@ -271,5 +265,5 @@ pub fn list(
             more: false,
         };
     }
-    run_onto(part, group, out, head, err, name, text)
+    run_onto(part, rd, group, out, head, err, name, text)
 }

@@ -15,6 +15,7 @@ use Rattle.text.specs.declared.Came.the-variants.{To}
 use Rattle.record.specs.Numbers.{codeNumber}
 use Rattle.record.specs.Records.{over}
 use Rattle.record.specs.declared.Code.the-variants.{TooLong}
+use Rattle.record.specs.declared.Reading.the-variants.{Old}
 use Rattle.record.specs.declared.Refusal.{Refusal}
 use Rattle.reading.specs.Answers.{startState}
 use Rattle.reading.specs.declared.Outcome.{Outcome}
@@ -63,7 +64,7 @@ module _ (s old recs : List ℕ) (t : Tokenizer) (ran : Ran) (start : t ≡ star
       → Left (packOut s d) (packErr name s (length d) f) (To 0) d p y
   unfolding packErr packOut
   pack-refused r p y e k =
-      let h = sym (how-is s t ran start is) ∙ e in
+      let h = sym (how-is Old s t ran start is) ∙ e in
       rw (le-ltb textLimit (length s) short, h) (record { out-to = refl; out-held = refl; err-to = k .0; err-held = k .1 })
 
   pub entries-of : entriesIn (take (5 * ran .stored) recs) ≡ map entryOf (wholeRun s 0 highest room startState .tokens)
@@ -84,10 +85,10 @@ module _ (s old recs : List ℕ) (t : Tokenizer) (ran : Ran) (start : t ≡ star
       → Left (packOut s d) (packErr name s (length d) f) r x p y
   unfolding packErr packOut
   pack-ended Ended r x p y e o k =
-      let h = sym (how-is s t ran start is) ∙ e in
+      let h = sym (how-is Old s t ran start is) ∙ e in
       rw (le-ltb textLimit (length s) short, h) (rw entries-of at k)
   pack-ended Running r x p y e o k =
-      let h = sym (how-is s t ran start is) ∙ e in
+      let h = sym (how-is Old s t ran start is) ∙ e in
       rw (le-ltb textLimit (length s) short, h) (rw entries-of at k)
   pack-ended (Refused z) r x p y e o k = absurd o
 

@@ -16,6 +16,8 @@ use Rattle.record.specs.declared.Code.{Code}
 use Rattle.record.specs.declared.Code.the-variants.{ExpectedStringLiteral, HalfSymbol, StrayCharacter, UnterminatedBlockComment, UnterminatedCharacterLiteral, UnterminatedCode, UnterminatedEscape, UnterminatedStringLiteral}
 use Rattle.record.specs.declared.Kind.{Kind}
 use Rattle.record.specs.declared.Kind.the-variants.{CharLiteral, EqualsGreaterThanCode, EqualsGreaterThanQuestionCode, Escape, Id, Lifetime, MacroId, RegexLiteral, ShebangAttribute, StringLiteral, Use}
+use Rattle.record.specs.declared.Reading.{Reading}
+use Rattle.record.specs.declared.Reading.the-variants.{Kept, Old}
 use Rattle.record.specs.declared.Token.{Token}
 use Rattle.scan.specs.IfNext.{ifNext}
 use Rattle.scan.specs.Readers.{regexEnd, stringEnd}
@@ -28,7 +30,7 @@ use Rattle.scan.specs.declared.Skip.the-variants.{Lost, Past}
 use Rattle.scan.specs.declared.Sought.the-variants.{Backtick, Hashes, Quote, Word}
 use Rattle.scan.specs.declared.Turn.{Turn}
 use Rattle.scan.specs.declared.Turn.the-variants.{Fail, Pass, Stop}
-use Rattle.code.specs.Code.{bodySkip, codeEnd, codeLast, codeTurn, escPast, escSkip, hashPast, hashSkip, oneSkip, quoteEnd, quoteSkip, rSkip, slashSkip}
+use Rattle.code.specs.Code.{bodySkip, codeEnd, codeLast, codeTurn, escPast, escSkip, hashPast, hashSkip, oneSkip, quoteEnd, quoteLast, quoteSkip, rSkip, regexStart, slashSkip}
 use Rattle.reading.specs.Answers.{deliver, more, plain, refuse, told, toldToken, toldWhat}
 use Rattle.reading.specs.Attribute.{attempt, attributeToken, hash, hashBy}
 use Rattle.reading.specs.Gaps.{commentTurn, gap, gapDepth, gapLast, gapTurn}
@@ -90,7 +92,7 @@ SaysIn P Q End = Unit {0}
 pub record Says (P : Token → Type 0) (Q : Code → Type 0) (x : Call) : Type 0 where
   pub is : SaysIn P Q (x .what)
 
-module _ (P : Token → Type 0) (Q : Code → Type 0)
+module _ (rd : Reading) (P : Token → Type 0) (Q : Code → Type 0)
     (bare : (kind : Kind) (o p : ℕ) → hasPayload kind ≡ false → P (tokenOf kind o p o o))
     (rich : (kind : Kind) (o p from to : ℕ) → hasPayload kind ≡ true → isString kind ≡ false → P (tokenOf kind o p from to))
     (q2 : Q UnterminatedEscape) (q5 : Q UnterminatedStringLiteral) (q6 : Q UnterminatedCharacterLiteral)
@@ -162,54 +164,59 @@ module _ (P : Token → Type 0) (Q : Code → Type 0)
     slash-loses [] at = lose-past at 0
     slash-loses (c ∷ cs) at = search loses
 
-    end-loses : (cs : List ℕ) (at : ℕ) → Loses Q (quoteEnd o cs at)
+    last-loses : (r : Reading) (at : ℕ) → Loses Q (quoteLast r o at)
+    unfolding quoteLast
+    last-loses Old at = lose-lost _ o at 0 q6
+    last-loses Kept at = lose-past at 0
+
+    end-loses : (cs : List ℕ) (at : ℕ) → Loses Q (quoteEnd rd o cs at)
     unfolding quoteEnd
-    end-loses [] at = lose-lost _ o at 0 q6
+    end-loses [] at = last-loses rd at
     end-loses (c ∷ cs) at = lose-past at 0
 
-    one-loses : (cs : List ℕ) (at : ℕ) → Loses Q (oneSkip o cs at)
+    one-loses : (cs : List ℕ) (at : ℕ) → Loses Q (oneSkip rd o cs at)
     unfolding oneSkip
     one-loses [] at = end-loses [] at
     one-loses (c ∷ cs) at = search (loses, end-loses)
 
-    esc-loses : (cs : List ℕ) (at : ℕ) → Loses Q (escSkip o cs at)
+    esc-loses : (cs : List ℕ) (at : ℕ) → Loses Q (escSkip rd o cs at)
     unfolding escSkip
     esc-loses [] at = lose-lost _ o at 0 q6
     esc-loses (c ∷ cs) at = lose-more 1 _ (go (seek Quote cs (at + widthOf c)))
       where
-        go : (f : Found) → Loses Q (escPast o cs f)
+        go : (f : Found) → Loses Q (escPast rd o cs f)
         go (At p m) = lose-more (m + 1) _ (end-loses (drop (m + 1) cs) (p + 1))
         go (Nothing p m) = lose-lost _ o p m q6
 
-    quote-loses : (cs : List ℕ) (at : ℕ) → Loses Q (quoteSkip o cs at)
+    quote-loses : (cs : List ℕ) (at : ℕ) → Loses Q (quoteSkip rd o cs at)
     unfolding quoteSkip
     quote-loses [] at = lose-lost _ o at 0 q6
     quote-loses (c ∷ cs) at = search (lose-test, lose-more, esc-loses, one-loses)
 
-    body-loses : (m : ℕ) (cs : List ℕ) (p : ℕ) → Loses Q (bodySkip o m cs p)
+    body-loses : (m : ℕ) (cs : List ℕ) (p : ℕ) → Loses Q (bodySkip rd o m cs p)
     unfolding bodySkip
     body-loses m [] p = lose-lost _ o p 0 q5
     body-loses m (c ∷ cs) p = search loses
 
-    hash-loses : (cs : List ℕ) (at : ℕ) → Loses Q (hashSkip o cs at)
+    hash-loses : (cs : List ℕ) (at : ℕ) → Loses Q (hashSkip rd o cs at)
     hash-loses cs at = go (seek Hashes cs at)
       where
-        go : (f : Found) → Loses Q (hashPast o cs f)
+        go : (f : Found) → Loses Q (hashPast rd o cs f)
         go (At p m) = lose-more m _ (body-loses m (drop m cs) p)
         go (Nothing p m) = lose-lost _ o p m q5
 
-  r-loses : (r : ℕ) (cs : List ℕ) (at : ℕ) → Loses Q (rSkip r cs at)
+  r-loses : (r : ℕ) (cs : List ℕ) (at : ℕ) → Loses Q (rSkip rd r cs at)
   unfolding rSkip
-  r-loses r cs at = lose-next 35 cs _ _ (hash-loses at cs at) (lose-past at 0)
+  r-loses r cs at = lose-next 35 cs _ _ (hash-loses (regexStart rd r at) cs at) (lose-past at 0)
 
-  code-turn-loses : (b c : ℕ) (cs : List ℕ) (at next : ℕ) → Turns Q (codeTurn b c cs at next)
+  code-turn-loses : (b c : ℕ) (cs : List ℕ) (at next : ℕ) → Turns Q (codeTurn rd b c cs at next)
   unfolding codeTurn
   code-turn-loses b c cs at next =
       let u = lose-through UnterminatedStringLiteral at (stringEnd 34 cs next) q5 in
       search (turn-loses, quote-loses, r-loses, slash-loses) depth 14
 
-  code-loses : (o : ℕ) (cs : List ℕ) (at : ℕ) → Loses Q (codeEnd o cs at)
-  code-loses o cs at = lose-from codeTurn (codeLast o) code-turn-loses (λ b p n. lose-test (eqb b 0) _ _ (lose-past p n) (lose-lost _ o p n q8)) 0 cs 0 at 0
+  code-loses : (o : ℕ) (cs : List ℕ) (at : ℕ) → Loses Q (codeEnd rd o cs at)
+  code-loses o cs at = lose-from (codeTurn rd) (codeLast o) code-turn-loses (λ b p n. lose-test (eqb b 0) _ _ (lose-past p n) (lose-lost _ o p n q8)) 0 cs 0 at 0
 
   -- ---- the gap
   comment-loses : (o : ℕ) (cs : List ℕ) (at : ℕ) → Turns Q (commentTurn o cs at)
@@ -269,11 +276,11 @@ module _ (P : Token → Type 0) (Q : Code → Type 0)
     code-token-says kind (Past p m) d k s h = record { is = says-deliver kind o at p p m k s .is }
     code-token-says kind (Lost r p m) d k s h = record { is = h .is }
 
-    pub arrow-code-says : (kind : Kind) → hasPayload kind ≡ true → isString kind ≡ false → Says P Q (arrowCode kind o cs at)
+    pub arrow-code-says : (kind : Kind) → hasPayload kind ≡ true → isString kind ≡ false → Says P Q (arrowCode rd kind o cs at)
     unfolding arrowCode
     arrow-code-says kind k s = code-token-says kind _ _ k s (code-loses o cs at)
 
-    use-says : Says P Q (useToken o cs at)
+    use-says : Says P Q (useToken rd o cs at)
     unfolding among useToken
     use-says = code-token-says _ _ _ refl refl (code-loses o cs at)
 
@@ -286,7 +293,7 @@ module _ (P : Token → Type 0) (Q : Code → Type 0)
     keyword-says [] w h = id-says
     keyword-says (k ∷ ks) w h = says-test (spells (k .0) w o at) _ _ (says-plain (k .1) o at 0 (h .0)) (keyword-says ks w (h .1))
 
-    word-says : (w : List ℕ) → Says P Q (wordToken w o cs at)
+    word-says : (w : List ℕ) → Says P Q (wordToken rd w o cs at)
     unfolding among wordToken
     word-says w = let u = use-says in let v = keyword-says keywords w keywords-plain in search says
 
@@ -321,39 +328,39 @@ module _ (P : Token → Type 0) (Q : Code → Type 0)
     lifetimeish-says [] at = says-refuse _ o at 0 q6
     lifetimeish-says (c ∷ cs) at = says-test (isIdentifierStart c) _ _ (lifetime-says o (c ∷ cs) at (seek Word (c ∷ cs) at)) (char-says o (c ∷ cs) at)
 
-    pub identifier-says : (front cs : List ℕ) (at : ℕ) → Says P Q (identifierish front o cs at)
+    pub identifier-says : (front cs : List ℕ) (at : ℕ) → Says P Q (identifierish rd front o cs at)
     unfolding identifierish
     identifier-says front cs at = go (seek Word cs at)
       where
-        go : (f : Found) → Says P Q (identifierBy front o cs f)
+        go : (f : Found) → Says P Q (identifierBy rd front o cs f)
         go (At p m) = says-more m _ (word-says o (drop m cs) p front)
         go (Nothing p m) = says-more m _ (word-says o (drop m cs) p front)
 
-    hashed-says : (front : List ℕ) (n : ℕ) (cs : List ℕ) (p : ℕ) → Says P Q (hashed front o n cs p)
+    hashed-says : (front : List ℕ) (n : ℕ) (cs : List ℕ) (p : ℕ) → Says P Q (hashed rd front o n cs p)
     unfolding hashed
     hashed-says front n [] p = says-refuse _ o p 0 q5
     hashed-says front n (c ∷ cs) p =
         says-test (eqb c 34) _ _ (says-more 1 _ (regex-says o cs (p + widthOf c) n))
         (says-test (isIdentifierStart c) _ _ (says-more 1 _ (identifier-says front cs (p + widthOf c))) (says-refuse _ p p 0 q9))
 
-    regex-literal-says : (front cs : List ℕ) (at : ℕ) → Says P Q (regexLiteral front o cs at)
+    regex-literal-says : (front cs : List ℕ) (at : ℕ) → Says P Q (regexLiteral rd front o cs at)
     unfolding regexLiteral
     regex-literal-says front cs at = go (seek Hashes cs at)
       where
-        go : (f : Found) → Says P Q (regexLiteralBy front o cs f)
+        go : (f : Found) → Says P Q (regexLiteralBy rd front o cs f)
         go (At p m) = says-more m _ (hashed-says front m (drop m cs) p)
         go (Nothing p m) = says-refuse _ o p m q5
 
-    pub r-says : (front cs : List ℕ) (at : ℕ) → Says P Q (rWord front o cs at)
+    pub r-says : (front cs : List ℕ) (at : ℕ) → Says P Q (rWord rd front o cs at)
     unfolding rWord
     r-says front cs at = search (says-next, regex-literal-says, identifier-says)
 
     -- codes of a failed attempt never show
-    pub hash-says : (cs : List ℕ) (at : ℕ) → Says P Q (hash o cs at)
+    pub hash-says : (cs : List ℕ) (at : ℕ) → Says P Q (hash rd o cs at)
     unfolding among hash attributeToken
     hash-says cs at = go (attempt cs at)
       where
-        go : (x : Attempt) → Says P Q (hashBy o cs at x)
+        go : (x : Attempt) → Says P Q (hashBy rd o cs at x)
         go (Closed p m) = says-more m _ (record { is = rich _ o p o p refl refl })
         go (Failed p m) = says-plain _ o at m refl
 
@@ -405,35 +412,35 @@ module _ (P : Token → Type 0) (Q : Code → Type 0)
       arrow-look-says = search halves
 
     module _ (o : ℕ) where
-      arrow-says : (cs : List ℕ) (at : ℕ) → Says P Q (rightArrow o cs at)
+      arrow-says : (cs : List ℕ) (at : ℕ) → Says P Q (rightArrow rd o cs at)
       unfolding among rightArrow
       arrow-says [] at = says-refuse _ o at 0 q8
       arrow-says (c ∷ cs) at = search (says, arrow-look-says, arrow-code-says)
 
-      equals-says : (cs : List ℕ) (at : ℕ) → Says P Q (equals o cs at)
+      equals-says : (cs : List ℕ) (at : ℕ) → Says P Q (equals rd o cs at)
       unfolding among equals
       equals-says cs at = search (says, arrow-says)
 
       -- a string starts with its quote, and nothing else does
-      starts-says : (c : ℕ) (cs : List ℕ) (at : ℕ) → (eqb c 34 ≡ true → Says P Q (stringLiteral o cs at)) → Says P Q (starts c cs o at)
+      starts-says : (c : ℕ) (cs : List ℕ) (at : ℕ) → (eqb c 34 ≡ true → Says P Q (stringLiteral o cs at)) → Says P Q (starts rd c cs o at)
       unfolding starts
       starts-says c cs at s = go (eqb c 34) refl
         where
-          go : (b : Bool) → eqb c 34 ≡ b → Says P Q (starts c cs o at)
+          go : (b : Bool) → eqb c 34 ≡ b → Says P Q (starts rd c cs o at)
           go true q = rw (eqb-true c 34 q) (says-more 1 _ (s q))
           go false q =
               rw q
               (search (says-other, says-test, says-more, bang-says, colon-says, dot-says, equals-says, look-says, tilde-says, escape-says, lifetimeish-says, says-half, minus-says, r-says, identifier-says, says-stray) depth 18)
 
       -- by its first character
-      pub first-says : (c : ℕ) (cs : List ℕ) → (eqb c 34 ≡ true → Says P Q (stringLiteral o cs (o + widthOf c))) → Says P Q (tokenOrEnd (c ∷ cs) o)
+      pub first-says : (c : ℕ) (cs : List ℕ) → (eqb c 34 ≡ true → Says P Q (stringLiteral o cs (o + widthOf c))) → Says P Q (tokenOrEnd rd (c ∷ cs) o)
       unfolding tokenOrEnd token
       first-says c cs s =
           says-test (eqb c 35) _ _ (says-more 1 _ (hash-says o cs (o + widthOf c)))
           (single-says o singles c (o + widthOf c) _ singles-plain (starts-says c cs (o + widthOf c) s))
 
     module _ (strings : (o p from to : ℕ) → P (tokenOf StringLiteral o p from to)) where
-      token-says : (o : ℕ) (cs : List ℕ) → Says P Q (tokenOrEnd cs o)
+      token-says : (o : ℕ) (cs : List ℕ) → Says P Q (tokenOrEnd rd cs o)
       unfolding tokenOrEnd
       token-says o [] = record { is = tt }
       token-says o (c ∷ cs) = first-says o c cs (λ e. string-says strings o cs (o + widthOf c))
@@ -450,10 +457,10 @@ module _ (P : Token → Type 0) (Q : Code → Type 0)
         says-told g x h = record { is = told-in g _ (x .what) (h .is) }
 
         -- THE LAW, of every call
-        pub next-says : (cs : List ℕ) (at : ℕ) → Says P Q (next cs at)
+        pub next-says : (cs : List ℕ) (at : ℕ) → Says P Q (next rd cs at)
         unfolding next
         next-says cs at = go (gap cs at) (gap-loses cs at)
           where
-            go : (x : Skip) → Loses Q x → Says P Q (nextBy cs x (gapDepth cs at))
+            go : (x : Skip) → Loses Q x → Says P Q (nextBy rd cs x (gapDepth cs at))
             go (Past p m) h = says-told _ _ (says-more m _ (token-says p (drop m cs)))
             go (Lost r p m) h = record { is = h .is }

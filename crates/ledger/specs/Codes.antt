@@ -7,6 +7,7 @@ use lib.Dec.{leb}
 use Rattle.record.specs.Numbers.{codeNumber}
 use Rattle.record.specs.Rust.{rustNumber}
 use Rattle.record.specs.declared.Code.{Code}
+use Rattle.record.specs.declared.Reading.{Reading}
 use Rattle.record.specs.declared.Token.{Token}
 use Rattle.reading.specs.Next.{next}
 use Rattle.reading.specs.declared.What.{What}
@@ -20,5 +21,5 @@ abbrev pub ErrorIn : What → Type 0
 ErrorIn w = SaysIn (λ (t : Token). Unit {0}) (λ (c : Code). isError c ≡ true) w
 
 -- of every call
-pub next-errs : (cs : List ℕ) (at : ℕ) → Says (λ (t : Token). Unit {0}) (λ (c : Code). isError c ≡ true) (next cs at)
-next-errs cs at = next-says (λ t. Unit {0}) (λ c. isError c ≡ true) (λ kind o p h. tt) (λ kind o p from to h s. tt) refl refl refl refl refl refl refl refl (λ o p from to. tt) (λ g d t h. h) cs at
+pub next-errs : (rd : Reading) (cs : List ℕ) (at : ℕ) → Says (λ (t : Token). Unit {0}) (λ (c : Code). isError c ≡ true) (next rd cs at)
+next-errs rd cs at = next-says rd (λ t. Unit {0}) (λ c. isError c ≡ true) (λ kind o p h. tt) (λ kind o p from to h s. tt) refl refl refl refl refl refl refl refl (λ o p from to. tt) (λ g d t h. h) cs at

@@ -14,12 +14,14 @@ use Rattle.record.specs.Checks.{checks}
 use Rattle.record.specs.Records.{over}
 use Rattle.record.specs.declared.Checked.{Checked}
 use Rattle.record.specs.declared.Checked.the-variants.{Passed, Refused as Stopped}
+use Rattle.record.specs.declared.Reading.{Reading}
 use Rattle.record.specs.declared.Refusal.{Refusal}
 use Rattle.record.specs.declared.Token.{Token}
 use Rattle.scan.specs.Far.{lands}
 use Rattle.scan.specs.Near.{far-on}
 use Rattle.scan.specs.Until.{left}
-use Rattle.reading.specs.Answers.{startState}
+use Rattle.reading.specs.AnyCall.{step-reading}
+use Rattle.reading.specs.Answers.{startIn}
 use Rattle.reading.specs.CallLaw.{Placed, next-laid}
 use Rattle.reading.specs.Next.{next}
 use Rattle.reading.specs.Run.{run, runFrom, runFromWith, runWith, shiftToken, shiftWhat, step, stepBy, stepIn, stepWith}
@@ -40,16 +42,16 @@ abbrev pub Ordered : ℕ → ℕ → List Token → Type 0
 Ordered from to [] = Unit {0}
 Ordered from to (t ∷ ts) = (from ≤ t .start) × (t .start < t .end) × (t .end ≤ to) × Ordered (t .end) to ts
 
--- the token that the call at a place delivers, with the shift
-pub record Delivers (s : List ℕ) (shift at : ℕ) (x : Token) : Type 0 where
+-- the token that the call at a place delivers in a reading, with the shift
+pub record Delivers (rd : Reading) (s : List ℕ) (shift at : ℕ) (x : Token) : Type 0 where
   pub token : Token
-  pub got : next (left s at) at .what ≡ Got token
+  pub got : next rd (left s at) at .what ≡ Got token
   pub shifted : x ≡ shiftToken shift token
 
 -- tokens of one call after the other, the first of them at the place at
-abbrev pub Called : List ℕ → ℕ → ℕ → List Token → Type 0
-Called s shift at [] = Unit {0}
-Called s shift at (x ∷ ts) = Delivers s shift at x × Called s shift (next (left s at) at .at) ts
+abbrev pub Called : Reading → List ℕ → ℕ → ℕ → List Token → Type 0
+Called rd s shift at [] = Unit {0}
+Called rd s shift at (x ∷ ts) = Delivers rd s shift at x × Called rd s shift (next rd (left s at) at .at) ts
 
 -- ---- a step that delivers a token is a call that does
 no-got : {A : Type 0} (z : Refusal) (y : Token) → Error z ≡ Got y → A
@@ -60,54 +62,54 @@ no-end y e = let w : _≡_ {A = ℕ} 0 1 = cc in absurd (omega arith)
 
 module _ (s : List ℕ) (shift limit : ℕ) (t : Tokenizer) where
   -- the token is the call's, and the tokenizer stands at its cursor
-  abbrev Gives : Token → Stepped → Type 0
-  Gives y x = Delivers s shift (t .at) y × (x .next .at ≡ next (left s (t .at)) (t .at) .at)
+  abbrev pub Gives : Token → Stepped → Type 0
+  Gives y x = Delivers (t .reading) s shift (t .at) y × (x .next .at ≡ next (t .reading) (left s (t .at)) (t .at) .at)
 
-  by-what : (y : Token) (w : What) → next (left s (t .at)) (t .at) .what ≡ w → shiftWhat shift w ≡ Got y → Delivers s shift (t .at) y
+  by-what : (y : Token) (w : What) → next (t .reading) (left s (t .at)) (t .at) .what ≡ w → shiftWhat shift w ≡ Got y → Delivers (t .reading) s shift (t .at) y
   by-what y (Got x) g e = record { token = x; got = g; shifted = cc }
   by-what y (Error z) g e = no-got _ y e
   by-what y End g e = no-end y e
 
-  by-got : (y : Token) → stepBy shift limit t (next (left s (t .at)) (t .at)) .what ≡ Got y → Gives y (stepBy shift limit t (next (left s (t .at)) (t .at)))
-  by-got y e = go (ltb limit (t .count + next (left s (t .at)) (t .at) .advances)) refl
+  by-got : (y : Token) → stepBy shift limit t (next (t .reading) (left s (t .at)) (t .at)) .what ≡ Got y → Gives y (stepBy shift limit t (next (t .reading) (left s (t .at)) (t .at)))
+  by-got y e = go (ltb limit (t .count + next (t .reading) (left s (t .at)) (t .at) .advances)) refl
     where
-      go : (b : Bool) → ltb limit (t .count + next (left s (t .at)) (t .at) .advances) ≡ b → Gives y (stepBy shift limit t (next (left s (t .at)) (t .at)))
+      go : (b : Bool) → ltb limit (t .count + next (t .reading) (left s (t .at)) (t .at) .advances) ≡ b → Gives y (stepBy shift limit t (next (t .reading) (left s (t .at)) (t .at)))
       go true q = no-got _ y (rw q at e)
-      go false q = rw q (by-what y (next (left s (t .at)) (t .at) .what) refl (rw q at e), refl)
+      go false q = rw q (by-what y (next (t .reading) (left s (t .at)) (t .at) .what) refl (rw q at e), refl)
 
   in-got : (d : Outcome) (y : Token) → stepIn d s shift limit t .what ≡ Got y → Gives y (stepIn d s shift limit t)
   in-got Running y e = by-got y e
   in-got Ended y e = no-end y e
   in-got (Refused z) y e = no-got z y e
 
-  step-got : (y : Token) → step s shift limit t .what ≡ Got y → Gives y (step s shift limit t)
+  pub step-got : (y : Token) → step s shift limit t .what ≡ Got y → Gives y (step s shift limit t)
   unfolding stepWith
   step-got y e = in-got (t .done) y e
 
 -- ---- so the tokens of a run are those of its calls
 module _ (s : List ℕ) (shift limit : ℕ) where
-  called-from : (k room : ℕ) (t : Tokenizer) → Called s shift (t .at) (runFrom s shift limit k room t .tokens)
+  called-from : (k room : ℕ) (t : Tokenizer) → Called (t .reading) s shift (t .at) (runFrom s shift limit k room t .tokens)
   unfolding runFromWith
   called-from zero room t = tt
   called-from (suc k) room t = go (λ m u. called-from k m u) (step s shift limit t .what) refl
     where
       Again : Type 0
-      Again = (m : ℕ) (u : Tokenizer) → Called s shift (u .at) (runFrom s shift limit k m u .tokens)
+      Again = (m : ℕ) (u : Tokenizer) → Called (u .reading) s shift (u .at) (runFrom s shift limit k m u .tokens)
 
-      some : Again → (y : Token) → step s shift limit t .what ≡ Got y → (b : Bool) → ltb 0 room ≡ b → Called s shift (t .at) (runFrom s shift limit (suc k) room t .tokens)
+      some : Again → (y : Token) → step s shift limit t .what ≡ Got y → (b : Bool) → ltb 0 room ≡ b → Called (t .reading) s shift (t .at) (runFrom s shift limit (suc k) room t .tokens)
       some ih y e true q =
           let g = step-got s shift limit t y e in
-          rw (run-got s shift limit k room t y e q) (g .0, rw (g .1) at (ih (room - 1) (step s shift limit t .next)))
+          rw (run-got s shift limit k room t y e q) (g .0, rw (step-reading next s shift limit t, g .1) at (ih (room - 1) (step s shift limit t .next)))
       some ih y e false q = rw (run-full s shift limit k room t y e q) tt
 
-      go : Again → (w : What) → step s shift limit t .what ≡ w → Called s shift (t .at) (runFrom s shift limit (suc k) room t .tokens)
+      go : Again → (w : What) → step s shift limit t .what ≡ w → Called (t .reading) s shift (t .at) (runFrom s shift limit (suc k) room t .tokens)
       go ih (Got y) e = some ih y e (ltb 0 room) refl
       go ih (Error z) e = rw (run-error s shift limit k room t z e) tt
       go ih End e = rw (run-end s shift limit k room t e) tt
 
 -- ---- what holds of no tokens, and of a run that passed the checks, holds of every run
 module _ (s : List ℕ) (shift limit room : ℕ) (t : Tokenizer) where
-  pub of-run : (P : List Token → Type 0) → P [] → (Allowed s shift → boundary s (t .at) ≡ true → Called s shift (t .at) (run s shift limit room t .tokens) → P (run s shift limit room t .tokens))
+  pub of-run : (P : List Token → Type 0) → P [] → (Allowed s shift → boundary s (t .at) ≡ true → Called (t .reading) s shift (t .at) (run s shift limit room t .tokens) → P (run s shift limit room t .tokens))
       → P (wholeRun s shift limit room t .tokens)
   unfolding wholeRunWith runWith
   of-run P none some = go (checks s shift) (boundary s (t .at)) refl refl
@@ -117,13 +119,13 @@ module _ (s : List ℕ) (shift limit room : ℕ) (t : Tokenizer) where
       go Passed false e q = rw q none
       go Passed true e q = rw q (some (allowed s shift e) q (called-from s shift limit (suc (length s)) room t))
 
-  pub called : Called s shift (t .at) (wholeRun s shift limit room t .tokens)
-  called = of-run (λ ts. Called s shift (t .at) ts) tt (λ a b c. c)
+  pub called : Called (t .reading) s shift (t .at) (wholeRun s shift limit room t .tokens)
+  called = of-run (λ ts. Called (t .reading) s shift (t .at) ts) tt (λ a b c. c)
 
 -- ---- a call that delivers a token
-module _ (s : List ℕ) (at : ℕ) (t : Token) (got : next (left s at) at .what ≡ Got t) where
-  pub placed : Placed (left s at) at t (next (left s at) at .at) (next (left s at) at .advances)
-  placed = rw got at ((next-laid (left s at) at) .is)
+module _ (rd : Reading) (s : List ℕ) (at : ℕ) (t : Token) (got : next rd (left s at) at .what ≡ Got t) where
+  pub placed : Placed rd (left s at) at t (next rd (left s at) at .at) (next rd (left s at) at .advances)
+  placed = rw got at ((next-laid rd (left s at) at) .is)
 
   -- gap, token and dropped character follow each other, and the token has a character at least
   pub start-on : at ≤ t .start
@@ -132,18 +134,18 @@ module _ (s : List ℕ) (at : ℕ) (t : Token) (got : next (left s at) at .what 
   pub not-empty : t .start < t .end
   not-empty = let h = placed in let g = far-on _ _ _ _ (h .span) in let w = h .some in omega arith
 
-  pub end-on : t .end ≤ next (left s at) at .at
+  pub end-on : t .end ≤ next rd (left s at) at .at
   end-on = let h = placed in let g = far-on _ _ _ _ (h .tail) in omega arith
 
-  pub end-within : at ≤ length s → next (left s at) at .at ≤ length s
-  end-within l = (lands _ s at _ (placed-far _ _ _ _ _ placed)) .room l
+  pub end-within : at ≤ length s → next rd (left s at) at .at ≤ length s
+  end-within l = (lands _ s at _ (placed-far rd _ _ _ _ _ placed)) .room l
 
   -- PROGRESS: the cursor moves
-  pub progress : at < next (left s at) at .at
+  pub progress : at < next rd (left s at) at .at
   progress = let a = start-on in let b = not-empty in let c = end-on in omega arith
 
-  pub fewer : suc (length (left s (next (left s at) at .at))) ≤ length (left s at)
-  fewer = let h = placed in let l = placed-length s at t _ _ h in let w = h .some in omega arith
+  pub fewer : suc (length (left s (next rd (left s at) at .at))) ≤ length (left s at)
+  fewer = let h = placed in let l = placed-length rd s at t _ _ h in let w = h .some in omega arith
 
 -- of the public single call
 pub moves : (s : List ℕ) (shift limit : ℕ) (t : Tokenizer) (y : Token) → nextToken s shift limit t .what ≡ Got y → t .at < nextToken s shift limit t .next .at
@@ -155,26 +157,26 @@ moves s shift limit t y e = go (checks s shift) (boundary s (t .at)) refl refl
     go Passed false f q = no-got _ y (rw (f, q) at e)
     go Passed true f q =
         let g = step-got s shift limit t y (rw (f, q) at e) in
-        rw (f, q, g .1) (progress s (t .at) (g .0 .token) (g .0 .got))
+        rw (f, q, g .1) (progress (t .reading) s (t .at) (g .0 .token) (g .0 .got))
 
 -- ---- the tokens of calls, one after the other
-module _ (s : List ℕ) (shift : ℕ) where
-  ordered-from : (from at : ℕ) (ts : List Token) → from ≤ at → at ≤ length s → Called s shift at ts → Ordered (from + shift) (length s + shift) ts
+module _ (rd : Reading) (s : List ℕ) (shift : ℕ) where
+  ordered-from : (from at : ℕ) (ts : List Token) → from ≤ at → at ≤ length s → Called rd s shift at ts → Ordered (from + shift) (length s + shift) ts
   ordered-from from at [] f l c = tt
   ordered-from from at (x ∷ ts) f l c =
       let d = c .0 in
       let t = d .token in
-      let a = start-on s at t (d .got) in
-      let b = not-empty s at t (d .got) in
-      let e = end-on s at t (d .got) in
-      let w = end-within s at t (d .got) l in
-      rw (d .shifted) (omega arith, omega arith, omega arith, ordered-from (t .end) (next (left s at) at .at) ts e w (c .1))
+      let a = start-on rd s at t (d .got) in
+      let b = not-empty rd s at t (d .got) in
+      let e = end-on rd s at t (d .got) in
+      let w = end-within rd s at t (d .got) l in
+      rw (d .shifted) (omega arith, omega arith, omega arith, ordered-from (t .end) (next rd (left s at) at .at) ts e w (c .1))
 
-  few : (at : ℕ) (ts : List Token) → Called s shift at ts → length ts ≤ length (left s at)
+  few : (at : ℕ) (ts : List Token) → Called rd s shift at ts → length ts ≤ length (left s at)
   few at [] c = omega arith
   few at (x ∷ ts) c =
-      let g = fewer s at (c .0 .token) (c .0 .got) in
-      let i = few (next (left s at) at .at) ts (c .1) in
+      let g = fewer rd s at (c .0 .token) (c .0 .got) in
+      let i = few (next rd (left s at) at .at) ts (c .1) in
       omega arith
 
 -- ---- THE THEOREMS
@@ -203,15 +205,15 @@ module _ (s : List ℕ) (shift limit room : ℕ) (t : Tokenizer) where
   pub ordered : Ordered (t .at + shift) (length s + shift) (wholeRun s shift limit room t .tokens)
   ordered =
       of-run s shift limit room t (λ ts. Ordered (t .at + shift) (length s + shift) ts) tt
-      (λ a b c. ordered-from s shift (t .at) (t .at) (run s shift limit room t .tokens) (omega arith) (boundary-within s (t .at) b) c)
+      (λ a b c. ordered-from (t .reading) s shift (t .at) (t .at) (run s shift limit room t .tokens) (omega arith) (boundary-within s (t .at) b) c)
 
   -- and there are no more of them than there are characters left
   pub at-most-left : length (wholeRun s shift limit room t .tokens) ≤ length (left s (t .at))
-  at-most-left = few s shift (t .at) (wholeRun s shift limit room t .tokens) (called s shift limit room t)
+  at-most-left = few (t .reading) s shift (t .at) (wholeRun s shift limit room t .tokens) (called s shift limit room t)
 
 -- "a run delivers at most N tokens"
-pub at-most : (s : List ℕ) (shift limit room : ℕ) → length (wholeRun s shift limit room startState .tokens) ≤ length (chars s)
-at-most s shift limit room = let h = at-most-left s shift limit room startState in omega arith
+pub at-most : (rd : Reading) (s : List ℕ) (shift limit room : ℕ) → length (wholeRun s shift limit room (startIn rd) .tokens) ≤ length (chars s)
+at-most rd s shift limit room = let h = at-most-left s shift limit room (startIn rd) in omega arith
 
 -- what a caller finds in the lent list, up to the count that `run::run` answers, is these tokens
 module _ (s : List ℕ) (shift limit : ℕ) (list-before list-after : List Token) (t : Tokenizer) (r : Ran) where

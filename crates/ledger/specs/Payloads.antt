@@ -9,6 +9,7 @@ use borrow.Author.Tests.{le-ltb}
 use Rattle.utf8.specs.Laws.{Whole, boundary-whole, bounded}
 use Rattle.utf8.specs.Utf8.{boundary, reach, widthOf}
 use Rattle.record.specs.declared.Checked.the-variants.{Passed}
+use Rattle.record.specs.declared.Reading.{Reading}
 use Rattle.record.specs.declared.Token.{Token}
 use Rattle.scan.specs.Far.{Far, after, lands}
 use Rattle.scan.specs.Until.{left}
@@ -67,27 +68,27 @@ module _ (s : List ℕ) (shift : ℕ) where
       let q : t .«payload_end» + shift - shift ≡ t .«payload_end» = omega arith in
       rw (le-ltb (t .«payload_start» + shift) shift (omega arith), le-ltb (t .«payload_end» + shift) (t .«payload_start» + shift) (omega arith), p, q, a, b)
 
-  held : (at : ℕ) (t : Token) → On s at → next (left s at) at .what ≡ Got t → Held s shift (shiftToken shift t)
-  held at t o got =
-      let i = next-inside (left s at) at in
-      let h : InsideIn at (next (left s at) at .at) (Got t) = rw got at (i .is) in
+  held : (rd : Reading) (at : ℕ) (t : Token) → On s at → next rd (left s at) at .what ≡ Got t → Held s shift (shiftToken shift t)
+  held rd at t o got =
+      let i = next-inside rd (left s at) at in
+      let h : InsideIn at (next rd (left s at) at .at) (Got t) = rw got at (i .is) in
       let e : EndsIn (Reached (left s at) at) (Got t) = rw got at (i .ends) in
       let a = on-boundary s _ (on-far s at _ _ o (e .0 .far)) in
       let b = on-boundary s _ (on-far s at _ _ o (e .1 .far)) in
       record { from-start = omega (arith, h .1); forward = omega (arith, h .2); to-end = omega (arith, h .3); checked = passes t (h .2) a b }
 
-  all-held : (at : ℕ) (ts : List Token) → On s at → Called s shift at ts → AllHeld s shift ts
-  all-held at [] o c = tt
-  all-held at (x ∷ ts) o c =
+  all-held : (rd : Reading) (at : ℕ) (ts : List Token) → On s at → Called rd s shift at ts → AllHeld s shift ts
+  all-held rd at [] o c = tt
+  all-held rd at (x ∷ ts) o c =
       let d = c .0 in
-      let f = placed-far _ _ _ _ _ (placed s at (d .token) (d .got)) in
-      (rw (d .shifted) (held at (d .token) o (d .got)), all-held (next (left s at) at .at) ts (on-far s at _ _ o f) (c .1))
+      let f = placed-far rd _ _ _ _ _ (placed rd s at (d .token) (d .got)) in
+      (rw (d .shifted) (held rd at (d .token) o (d .got)), all-held rd (next rd (left s at) at .at) ts (on-far s at _ _ o f) (c .1))
 
 -- ---- THE THEOREM
 pub payloads-held : (s : List ℕ) (shift limit room : ℕ) (t : Tokenizer) → AllHeld s shift (wholeRun s shift limit room t .tokens)
 payloads-held s shift limit room t =
     of-run s shift limit room t (λ ts. AllHeld s shift ts) tt
-    (λ a b c. all-held s shift (t .at) (run s shift limit room t .tokens) (record { within = boundary-within s (t .at) b; whole = boundary-whole s (t .at) (a .valid) b }) c)
+    (λ a b c. all-held s shift (t .reading) (t .at) (run s shift limit room t .tokens) (record { within = boundary-within s (t .at) b; whole = boundary-whole s (t .at) (a .valid) b }) c)
 
 -- of the token at an index
 pub held-at : (s : List ℕ) (shift : ℕ) (ts : List Token) (i : ℕ) (d : Token) → AllHeld s shift ts → i < length ts → Held s shift (getD ts i d)

@@ -40,18 +40,18 @@ not-ended e = let w : _≡_ {A = ℕ} 0 1 = cc in absurd (omega arith)
 
 -- ---- the cursor of a tokenizer that is still running is a place that calls came to
 module _ (s : List ℕ) (shift limit : ℕ) (t : Tokenizer) where
-  call-on : On s (t .at) → (w : What) → next (left s (t .at)) (t .at) .what ≡ w → doneBy (shiftWhat shift w) ≡ Running → On s (next (left s (t .at)) (t .at) .at)
-  call-on o (Got y) e d = on-far s (t .at) _ _ o (placed-far _ _ _ _ _ (placed s (t .at) y e))
+  call-on : On s (t .at) → (w : What) → next (t .reading) (left s (t .at)) (t .at) .what ≡ w → doneBy (shiftWhat shift w) ≡ Running → On s (next (t .reading) (left s (t .at)) (t .at) .at)
+  call-on o (Got y) e d = on-far s (t .at) _ _ o (placed-far _ _ _ _ _ _ (placed (t .reading) s (t .at) y e))
   call-on o (Error z) e d = not-refused _ d
   call-on o End e d = not-ended d
 
-  by-on : On s (t .at) → stepBy shift limit t (next (left s (t .at)) (t .at)) .next .done ≡ Running → On s (stepBy shift limit t (next (left s (t .at)) (t .at)) .next .at)
-  by-on o = go (ltb limit (t .count + next (left s (t .at)) (t .at) .advances)) refl
+  by-on : On s (t .at) → stepBy shift limit t (next (t .reading) (left s (t .at)) (t .at)) .next .done ≡ Running → On s (stepBy shift limit t (next (t .reading) (left s (t .at)) (t .at)) .next .at)
+  by-on o = go (ltb limit (t .count + next (t .reading) (left s (t .at)) (t .at) .advances)) refl
     where
-      go : (b : Bool) → ltb limit (t .count + next (left s (t .at)) (t .at) .advances) ≡ b
-          → stepBy shift limit t (next (left s (t .at)) (t .at)) .next .done ≡ Running → On s (stepBy shift limit t (next (left s (t .at)) (t .at)) .next .at)
+      go : (b : Bool) → ltb limit (t .count + next (t .reading) (left s (t .at)) (t .at) .advances) ≡ b
+          → stepBy shift limit t (next (t .reading) (left s (t .at)) (t .at)) .next .done ≡ Running → On s (stepBy shift limit t (next (t .reading) (left s (t .at)) (t .at)) .next .at)
       go true q d = rw q o
-      go false q d = rw q (call-on o (next (left s (t .at)) (t .at) .what) refl (rw q at d))
+      go false q d = rw q (call-on o (next (t .reading) (left s (t .at)) (t .at) .what) refl (rw q at d))
 
   in-on : (d : Outcome) → On s (t .at) → stepIn d s shift limit t .next .done ≡ Running → On s (stepIn d s shift limit t .next .at)
   in-on Running o e = by-on o e

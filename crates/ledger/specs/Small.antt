@@ -8,6 +8,7 @@ use lib.ListN.{length}
 use Rattle.utf8.specs.Chars.{'*, '/}
 use Rattle.utf8.specs.Picks.{by-test}
 use Rattle.utf8.specs.Utf8.{widthOf}
+use Rattle.record.specs.declared.Reading.{Reading}
 use Rattle.scan.specs.Depth.{commentDepth, coverDepth, deeper, deepest, depthFrom, slashDepth}
 use Rattle.scan.specs.Readers.{comDone, comStep, depthOf}
 use Rattle.scan.specs.Steps.{com-depth}
@@ -66,5 +67,5 @@ module _ (see : ℕ → ℕ → List ℕ → ℕ → ℕ → Turn) (m : ℕ) whe
 pub gap-small : (cs : List ℕ) (at : ℕ) → gapDepth cs at ≤ length cs
 gap-small cs at = walk-small gapTurn (length cs) 0 cs 0 at 0 (omega arith) (omega arith)
 
-pub code-small : (cs : List ℕ) (at : ℕ) → codeDepth cs at ≤ length cs
-code-small cs at = walk-small codeTurn (length cs) 0 cs 0 at 0 (omega arith) (omega arith)
+pub code-small : (rd : Reading) (cs : List ℕ) (at : ℕ) → codeDepth rd cs at ≤ length cs
+code-small rd cs at = walk-small (codeTurn rd) (length cs) 0 cs 0 at 0 (omega arith) (omega arith)

@@ -18,7 +18,7 @@ use Rattle.scan.specs.Far.{after}
 use Rattle.scan.specs.IfNext.{ifNext}
 use Rattle.scan.specs.Until.{until}
 use Rattle.scan.specs.Walk.{walkFrom}
-use Rattle.code.specs.Code.{bodySkip, closes, codeTurn, escSkip, oneSkip, opens, quoteEnd, quoteSkip, rSkip, slashSkip}
+use Rattle.code.specs.Code.{bodySkip, closes, codeTurn, escSkip, oneSkip, opens, quoteEnd, quoteLast, quoteSkip, rSkip, slashSkip}
 use Rattle.reading.specs.Answers.{deliver, more, plain, refuse, startState, told, toldToken}
 use Rattle.reading.specs.Attribute.{attempt, attemptBody, attemptBracket, attributeToken, attributeTurn, dropped, hash}
 use Rattle.reading.specs.Gaps.{commentTurn, gap, gapTurn}
@@ -97,7 +97,7 @@ marked =
     ∷ []
 
 pub marked-examples : readAll marked ≡ expected marked
-unfolding readAll expected marked runWith runFromWith stepWith next gap gapTurn commentTurn tokenOrEnd token starts single singles half stray bang colon dot look tilde minus arrowLook arrowCode rightArrow equals attributeTurn attemptBody attemptBracket attempt dropped attributeToken hash regexToken hashed regexLiteral rWord spells keywords useToken idToken keywordToken wordToken identifierish escape stringLiteral charLiteral lifetimeish slashSkip quoteEnd oneSkip escSkip quoteSkip bodySkip rSkip opens closes codeTurn walkFrom deliver plain refuse more told depthFrom slashDepth deepest ifNext until after chars charsFrom sight lead low high widthOf startRanges continueRanges holds inRanges
+unfolding readAll expected marked runWith runFromWith stepWith next gap gapTurn commentTurn tokenOrEnd token starts single singles half stray bang colon dot look tilde minus arrowLook arrowCode rightArrow equals attributeTurn attemptBody attemptBracket attempt dropped attributeToken hash regexToken hashed regexLiteral rWord spells keywords useToken idToken keywordToken wordToken identifierish escape stringLiteral charLiteral lifetimeish slashSkip quoteLast quoteEnd oneSkip escSkip quoteSkip bodySkip rSkip opens closes codeTurn walkFrom deliver plain refuse more told depthFrom slashDepth deepest ifNext until after chars charsFrom sight lead low high widthOf startRanges continueRanges holds inRanges
 marked-examples = refl
 
 -- what `run::run` stores and answers, with the three checks and the boundary before the reading
@@ -109,7 +109,7 @@ ranAll [] = []
 ranAll (r ∷ rs) = ran (r .0) ∷ ranAll rs
 
 pub marked-runs : ranAll marked ≡ expected marked
-unfolding ranAll expected marked ranWith wholeRunWith checks reach runWith runFromWith stepWith next gap gapTurn commentTurn tokenOrEnd token starts single singles half stray bang colon dot look tilde minus arrowLook arrowCode rightArrow equals attributeTurn attemptBody attemptBracket attempt dropped attributeToken hash regexToken hashed regexLiteral rWord spells keywords useToken idToken keywordToken wordToken identifierish escape stringLiteral charLiteral lifetimeish slashSkip quoteEnd oneSkip escSkip quoteSkip bodySkip rSkip opens closes codeTurn walkFrom deliver plain refuse more told depthFrom slashDepth deepest ifNext until after chars charsFrom sight lead low high widthOf startRanges continueRanges holds inRanges
+unfolding ranAll expected marked ranWith wholeRunWith checks reach runWith runFromWith stepWith next gap gapTurn commentTurn tokenOrEnd token starts single singles half stray bang colon dot look tilde minus arrowLook arrowCode rightArrow equals attributeTurn attemptBody attemptBracket attempt dropped attributeToken hash regexToken hashed regexLiteral rWord spells keywords useToken idToken keywordToken wordToken identifierish escape stringLiteral charLiteral lifetimeish slashSkip quoteLast quoteEnd oneSkip escSkip quoteSkip bodySkip rSkip opens closes codeTurn walkFrom deliver plain refuse more told depthFrom slashDepth deepest ifNext until after chars charsFrom sight lead low high widthOf startRanges continueRanges holds inRanges
 marked-runs = refl
 
 -- more of the paper's examples, with shift, work limit and room
@@ -149,5 +149,5 @@ further =
     ∷ []
 
 pub further-examples : readAllWith further ≡ expectedWith further
-unfolding readAllWith expectedWith further runWith runFromWith stepWith next gap gapTurn commentTurn tokenOrEnd token starts single singles half stray bang colon dot look tilde minus arrowLook arrowCode rightArrow equals attributeTurn attemptBody attemptBracket attempt dropped attributeToken hash regexToken hashed regexLiteral rWord spells keywords useToken idToken keywordToken wordToken identifierish escape stringLiteral charLiteral lifetimeish slashSkip quoteEnd oneSkip escSkip quoteSkip bodySkip rSkip opens closes codeTurn walkFrom deliver plain refuse more told depthFrom slashDepth deepest ifNext until after chars charsFrom sight lead low high widthOf startRanges continueRanges holds inRanges
+unfolding readAllWith expectedWith further runWith runFromWith stepWith next gap gapTurn commentTurn tokenOrEnd token starts single singles half stray bang colon dot look tilde minus arrowLook arrowCode rightArrow equals attributeTurn attemptBody attemptBracket attempt dropped attributeToken hash regexToken hashed regexLiteral rWord spells keywords useToken idToken keywordToken wordToken identifierish escape stringLiteral charLiteral lifetimeish slashSkip quoteLast quoteEnd oneSkip escSkip quoteSkip bodySkip rSkip opens closes codeTurn walkFrom deliver plain refuse more told depthFrom slashDepth deepest ifNext until after chars charsFrom sight lead low high widthOf startRanges continueRanges holds inRanges
 further-examples = refl

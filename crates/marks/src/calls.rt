@@ -55,12 +55,14 @@ pub(crate) fn off_the_boundaries() {
     named(b"a two-byte letter, from its middle");
     let t = tok::start();
     let done = t.done;
+    let reading = t.reading;
     state(call(
         b"\xc3\xa9",
         Tokenizer {
             at: 1,
             count: 9,
             done,
+            reading,
         },
     ));
 }

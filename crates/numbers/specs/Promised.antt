@@ -1,23 +1,25 @@
 -- THE PROMISES IN NUMBERS. Beside the contract of each public function that answers an enum: what it says of the answer's numbers. `Tells` is both ways,
 -- so the contract and its numbers say the same; where the definition is a few tests, the numbers are written out.
-use Prim.Native.Nat.{ℕ, _+_, _*_, _/_}
+use Prim.Native.Nat.{ℕ, suc, zero, _+_, _*_, _/_}
 use native.Mathlib.Omega.{arith}
 use mathlib.Core.Bool.{Bool, cond, false, true}
 use mathlib.Core.List.{List, [], _∷_, _++_, map}
 use mathlib.Core.Path.{_≡_, refl, ap, _∙_}
 use lib.Dec.{eqb, ltb}
 use lib.ListN.{getD, length}
-use borrow.Author.Tests.{ltb-false, ltb-true, ne-eqb}
+use borrow.Author.Tests.{le-ltb, ltb-false, ltb-true, ne-eqb}
 use Rattle.utf8.specs.Chars.{'backslash}
 use Rattle.utf8.specs.Utf8.{verdict}
 use Rattle.utf8.specs.declared.Utf8.{Utf8}
 use Rattle.utf8.specs.declared.Utf8.the-variants.{Bad, Valid}
 use Rattle.record.specs.Checks.{checkUtf8, checks, shiftLimit, textLimit}
 use Rattle.record.specs.Numbers.{codeNumber, kindOf}
+use Rattle.record.specs.Readings.{readingOf}
 use Rattle.record.specs.Records.{refusal}
 use Rattle.record.specs.declared.Checked.{Checked}
 use Rattle.record.specs.declared.Checked.the-variants.{Passed, Refused as Stopped}
 use Rattle.record.specs.declared.Code.the-variants.{TooLong}
+use Rattle.record.specs.declared.Chosen.{Chosen}
 use Rattle.record.specs.declared.Known.{Known}
 use Rattle.record.specs.declared.Refusal.{Refusal}
 use Rattle.record.specs.declared.Told.the-variants.{Unknown as NotTold}
@@ -49,8 +51,8 @@ use Rattle.ltk.specs.declared.Found.{Found}
 use Rattle.ltk.specs.declared.Found.the-variants.{Record}
 use Rattle.sheet.specs.Sheet.{taken}
 use Rattle.sheet.specs.declared.Taken.{Taken}
-use Rattle.numbers.specs.Same.{answer-same, code-some, checked-same, expanded-same, found-same, known-same, located-same, outcome-same, reported-same, taken-same, what-same}
-use Rattle.numbers.specs.Values.{answerNumbers, checkedNumbers, expandedNumbers, foundNumbers, knownNumbers, locatedNumbers, outcomeNumbers, refusalNumbers, reportedNumbers, takenNumbers, toldNumbers, whatNumbers}
+use Rattle.numbers.specs.Same.{answer-same, code-some, checked-same, chosen-same, expanded-same, found-same, known-same, located-same, outcome-same, reported-same, taken-same, what-same}
+use Rattle.numbers.specs.Values.{answerNumbers, checkedNumbers, chosenNumbers, expandedNumbers, foundNumbers, knownNumbers, locatedNumbers, outcomeNumbers, refusalNumbers, reportedNumbers, takenNumbers, toldNumbers, whatNumbers}
 
 -- an answer is the one that is promised exactly if its numbers are
 abbrev pub Tells : {A : Type 0} → (A → List ℕ) → A → A → Type 0
@@ -126,6 +128,17 @@ kind-told n r e = ap knownNumbers e ∙ go (ltb n 54) refl
 
 pub kind-tells : (r d : Known) → Tells knownNumbers r d
 kind-tells r d = tells knownNumbers known-same r d
+
+-- ---- readings. `record::reading_of`. 02, E5: 0 is the old one, 1 the kept one, no other number is one
+pub reading-told : (n : ℕ) (r : Chosen) → r ≡ readingOf n → chosenNumbers r ≡ cond (ltb n 2) (n ∷ []) []
+unfolding readingOf
+reading-told zero r e = rw e
+reading-told (suc zero) r e = rw e
+reading-told (suc (suc n)) r e =
+    rw e (simp (ne-eqb (suc (suc n)) 0 (λ z. omega arith), ne-eqb (suc (suc n)) 1 (λ z. omega arith), le-ltb (suc (suc n)) 2 (omega arith)))
+
+pub reading-tells : (r d : Chosen) → Tells chosenNumbers r d
+reading-tells r d = tells chosenNumbers chosen-same r d
 
 -- ---- an expansion. `escapes::apply_string_escapes`
 pub expand-told : (s : List ℕ) (idx0 : ℕ) (d : List ℕ) (place : ℕ) (r : Expanded) → Tells expandedNumbers r (applied s idx0 d place .answer)

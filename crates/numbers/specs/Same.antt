@@ -8,9 +8,12 @@ use Rattle.record.specs.declared.Checked.{Checked}
 use Rattle.record.specs.declared.Checked.the-variants.{Passed, Refused as Stopped}
 use Rattle.record.specs.declared.Code.{Code}
 use Rattle.record.specs.declared.Code.the-variants.{UnrecognizedToken}
+use Rattle.record.specs.declared.Chosen.{Chosen}
+use Rattle.record.specs.declared.Chosen.the-variants.{Nothing as NotChosen, Reading as AReading}
 use Rattle.record.specs.declared.Kind.{Kind}
 use Rattle.record.specs.declared.Known.{Known}
 use Rattle.record.specs.declared.Known.the-variants.{Kind as AKind, Nothing as Unknown}
+use Rattle.record.specs.declared.Reading.the-variants.{Kept, Old}
 use Rattle.record.specs.declared.Refusal.{Refusal}
 use Rattle.record.specs.declared.Token.{Token}
 use Rattle.record.specs.declared.Told.{Told}
@@ -33,7 +36,7 @@ use Rattle.ltk.specs.declared.Found.{Found}
 use Rattle.ltk.specs.declared.Found.the-variants.{Nothing, Record}
 use Rattle.sheet.specs.declared.Taken.{Taken}
 use Rattle.sheet.specs.declared.Taken.the-variants.{Refused as NotTaken, Tallied, Whole}
-use Rattle.numbers.specs.Values.{answerNumbers, checkedNumbers, expandedNumbers, foundNumbers, heldNumber, knownNumbers, locatedNumbers, outcomeNumbers, reportedNumbers, takenNumbers, tokenNumbers, toldNumbers, whatNumbers}
+use Rattle.numbers.specs.Values.{answerNumbers, checkedNumbers, chosenNumbers, expandedNumbers, foundNumbers, heldNumber, knownNumbers, locatedNumbers, outcomeNumbers, reportedNumbers, takenNumbers, tokenNumbers, toldNumbers, whatNumbers}
 
 -- ---- codes, kinds, refusals and tokens
 pub code-same : (c d : Code) → codeNumber c ≡ codeNumber d → c ≡ d
@@ -113,6 +116,15 @@ known-same (AKind j) (AKind k) e = ap AKind (kind-same j k (cc))
 known-same (AKind j) Unknown e = cc
 known-same Unknown (AKind k) e = cc
 known-same Unknown Unknown e = refl
+
+pub chosen-same : (a b : Chosen) → chosenNumbers a ≡ chosenNumbers b → a ≡ b
+chosen-same (AReading Old) (AReading Old) e = refl
+chosen-same (AReading Kept) (AReading Kept) e = refl
+chosen-same (AReading Old) (AReading Kept) e = let w : _≡_ {A = ℕ} 0 1 = cc in absurd (omega arith)
+chosen-same (AReading Kept) (AReading Old) e = let w : _≡_ {A = ℕ} 0 1 = cc in absurd (omega arith)
+chosen-same (AReading rd) NotChosen e = cc
+chosen-same NotChosen (AReading rd) e = cc
+chosen-same NotChosen NotChosen e = refl
 
 pub expanded-same : (a b : Expanded) → expandedNumbers a ≡ expandedNumbers b → a ≡ b
 expanded-same (APart p) (APart q) e =

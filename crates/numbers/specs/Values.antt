@@ -3,9 +3,13 @@
 -- where nothing is refused; the second is its place, 0 where nothing is refused; then come the values. Where nothing is answered there are no numbers.
 use Prim.Native.Nat.{ℕ}
 use mathlib.Core.List.{List, [], _∷_, _++_}
+use lib.ListN.{getD}
 use Rattle.record.specs.Numbers.{codeNumber, kindNumber}
+use Rattle.record.specs.Readings.{readingNumber}
 use Rattle.record.specs.declared.Checked.{Checked}
 use Rattle.record.specs.declared.Checked.the-variants.{Passed, Refused as Stopped}
+use Rattle.record.specs.declared.Chosen.{Chosen}
+use Rattle.record.specs.declared.Chosen.the-variants.{Nothing as NotChosen, Reading as AReading}
 use Rattle.record.specs.declared.Known.{Known}
 use Rattle.record.specs.declared.Known.the-variants.{Kind as AKind, Nothing as Unknown}
 use Rattle.record.specs.declared.Refusal.{Refusal}
@@ -61,6 +65,13 @@ outcomeNumbers Running = []
 outcomeNumbers Ended = noRefusal
 outcomeNumbers (Refused r) = refusalNumbers r
 
+-- its code and its place; both 0 where nothing is refused
+abbrev pub howCode : Outcome → ℕ
+howCode how = getD (outcomeNumbers how) 0 0
+
+abbrev pub howPlace : Outcome → ℕ
+howPlace how = getD (outcomeNumbers how) 1 0
+
 -- `record::Checked`, a check
 abbrev pub checkedNumbers : Checked → List ℕ
 checkedNumbers Passed = noRefusal
@@ -70,6 +81,11 @@ checkedNumbers (Stopped r) = refusalNumbers r
 abbrev pub knownNumbers : Known → List ℕ
 knownNumbers (AKind k) = kindNumber k ∷ []
 knownNumbers Unknown = []
+
+-- `record::Chosen`, by the reading's number
+abbrev pub chosenNumbers : Chosen → List ℕ
+chosenNumbers (AReading rd) = readingNumber rd ∷ []
+chosenNumbers NotChosen = []
 
 -- `escapes::Expanded`, an expansion: the slice that holds it (0 the text, 1 the buffer), its start and its end
 abbrev pub heldNumber : Held → ℕ

@@ -6,6 +6,8 @@ use Rattle.record.specs.declared.Kind.{Kind}
 use Rattle.record.specs.declared.Refusal.{Refusal}
 use Rattle.record.specs.declared.Token.{Token}
 use Rattle.record.specs.declared.Told.the-variants.{Is}
+use Rattle.record.specs.declared.Reading.{Reading}
+use Rattle.record.specs.declared.Reading.the-variants.{Old}
 use Rattle.reading.specs.declared.Call.{Call}
 use Rattle.reading.specs.declared.Outcome.the-variants.{Running}
 use Rattle.reading.specs.declared.Tokenizer.{Tokenizer}
@@ -57,6 +59,9 @@ toldWhat g d End = End
 unfoldable pub told : ℕ → Call → Call
 told g x = record { what = toldWhat g (x .«code_depth») (x .what); at = x .at; advances = x .advances; «gap_depth» = g; «code_depth» = x .«code_depth» }
 
--- where a run starts
+-- where a run starts, in a reading, and in 01's
+abbrev pub startIn : Reading → Tokenizer
+startIn rd = record { at = 0; count = 0; done = Running; reading = rd }
+
 abbrev pub startState : Tokenizer
-startState = record { at = 0; count = 0; done = Running }
+startState = startIn Old

@@ -8,6 +8,8 @@ use Rattle.utf8.specs.Chars.{'!, '[, '], 'dquote, 'newline}
 use Rattle.utf8.specs.Utf8.{widthOf}
 use Rattle.record.specs.Records.{tokenOf}
 use Rattle.record.specs.declared.Kind.the-variants.{Hash, ShebangAttribute}
+use Rattle.record.specs.declared.Reading.{Reading}
+use Rattle.record.specs.declared.Reading.the-variants.{Kept, Old}
 use Rattle.scan.specs.Far.{after}
 use Rattle.scan.specs.IfNext.{ifNext}
 use Rattle.scan.specs.Seek.{stringSkip}
@@ -64,21 +66,22 @@ unfoldable pub attempt : List ℕ → ℕ → Attempt
 attempt [] at = Failed at 0
 attempt (c ∷ cs) at = cond (eqb c '!) (attemptMore 1 (attemptBracket cs (at + widthOf c))) (Failed (at + widthOf c) 1)
 
--- ODDITY. 01: "After success one further character is passed and belongs to no token, if there is one."
--- after an attribute one further character is passed, if there is one, and belongs to no token
-unfoldable pub dropped : List ℕ → ℕ
-dropped [] = 0
-dropped (c ∷ cs) = 1
+-- ODDITY, where the readings differ. 01: "After success one further character is passed and belongs to no token, if there is one." 02, E5: "nothing is
+-- passed after an attribute's bracket". How many characters are passed after an attribute, of the characters cs that follow it:
+unfoldable pub dropped : Reading → List ℕ → ℕ
+dropped Old [] = 0
+dropped Old (c ∷ cs) = 1
+dropped Kept cs = 0
 
 -- the attribute from o to p; the characters cs stand at p
-unfoldable pub attributeToken : ℕ → List ℕ → ℕ → Call
-attributeToken o cs p = record { what = Got (tokenOf ShebangAttribute o p o p); at = after (dropped cs) cs p; advances = dropped cs; «gap_depth» = 0; «code_depth» = 0 }
+unfoldable pub attributeToken : Reading → ℕ → List ℕ → ℕ → Call
+attributeToken rd o cs p = record { what = Got (tokenOf ShebangAttribute o p o p); at = after (dropped rd cs) cs p; advances = dropped rd cs; «gap_depth» = 0; «code_depth» = 0 }
 
 -- 01: "if it fails, the cursor returns to just after `#`, `Hash` is delivered, and the attempt's advances stay counted"; "Codes of a failed
 -- attempt, 7 too, never show": an attempt carries none. After a hash at o
-abbrev pub hashBy : ℕ → List ℕ → ℕ → Attempt → Call
-hashBy o cs at (Closed p m) = more m (attributeToken o (drop m cs) p)
-hashBy o cs at (Failed p m) = plain Hash o at m
+abbrev pub hashBy : Reading → ℕ → List ℕ → ℕ → Attempt → Call
+hashBy rd o cs at (Closed p m) = more m (attributeToken rd o (drop m cs) p)
+hashBy rd o cs at (Failed p m) = plain Hash o at m
 
-unfoldable pub hash : ℕ → List ℕ → ℕ → Call
-hash o cs at = hashBy o cs at (attempt cs at)
+unfoldable pub hash : Reading → ℕ → List ℕ → ℕ → Call
+hash rd o cs at = hashBy rd o cs at (attempt cs at)

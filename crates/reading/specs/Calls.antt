@@ -13,6 +13,7 @@ use Rattle.record.specs.declared.Code.{Code}
 use Rattle.record.specs.declared.Code.the-variants.{UnterminatedCharacterLiteral, UnterminatedEscape, UnterminatedStringLiteral}
 use Rattle.record.specs.declared.Kind.{Kind}
 use Rattle.record.specs.declared.Kind.the-variants.{Bang, BangEquals, BangTilde, CharLiteral, Colon, ColonColon, DotDot, Equals, EqualsEquals, EqualsGreaterThanCode, EqualsGreaterThanLookahead, EqualsGreaterThanLookbehind, EqualsGreaterThanQuestionCode, Escape, Id, Lifetime, Lookahead, Lookbehind, MacroId, MinusGreaterThan, RegexLiteral, StringLiteral, TildeTilde, Underscore, Use}
+use Rattle.record.specs.declared.Reading.{Reading}
 use Rattle.scan.specs.Far.{Far, far-none, one-far, one-more, then}
 use Rattle.scan.specs.IfNext.{ifNext}
 use Rattle.scan.specs.Passes.{Sound, backtick-past, regex-none, regex-past, seek-at, seek-none, string-none, string-past}
@@ -128,43 +129,6 @@ module _ (o : ℕ) (cs : List ℕ) (at : ℕ) where
       fair-mark o 76 EqualsGreaterThanLookahead cs at _ refl refl
       (fair-mark o 82 EqualsGreaterThanLookbehind cs at _ refl refl (fair-half o cs at))
 
-  -- code
-  code-token-fair : (kind : Kind) (from : ℕ) (x : Skip) (d : ℕ) → isAttribute kind ≡ false → Sound cs at x → Fair o cs at (codeToken kind o from x d)
-  code-token-fair kind from (Past p m) d e h = let f = fair-deliver o cs at kind from p p m e (h .is) in record { far = f .far; span = f .span }
-  code-token-fair kind from (Lost r p m) d e h = record { far = h .is; span = tt }
-
-  pub arrow-code-fair : (kind : Kind) → isAttribute kind ≡ false → Fair o cs at (arrowCode kind o cs at)
-  unfolding arrowCode
-  arrow-code-fair kind e = code-token-fair kind at _ _ e (code-sound o cs at)
-
-  use-fair : Fair o cs at (useToken o cs at)
-  unfolding useToken
-  use-fair = code-token-fair Use at _ _ refl (code-sound o cs at)
-
-pub arrow-fair : (o : ℕ) (cs : List ℕ) (at : ℕ) → Fair o cs at (rightArrow o cs at)
-unfolding rightArrow
-arrow-fair o [] at = fair-refuse o [] at _ o at 0 (far-none [] at)
-arrow-fair o (c ∷ cs) at =
-    let u = fair-one o cs at c _ (arrow-look-fair o cs (at + widthOf c)) in
-    let v = fair-one o cs at c _ (arrow-code-fair o cs (at + widthOf c) EqualsGreaterThanQuestionCode refl) in
-    let w = arrow-code-fair o (c ∷ cs) at EqualsGreaterThanCode refl in
-    search fair-test
-
-equals-2 : (o : ℕ) (cs : List ℕ) (at : ℕ) (y : Call) → Fair o cs at y → Fair o cs at (ifNext 62 cs (more 1 (rightArrow o (drop 1 cs) (at + 1))) y)
-unfolding ifNext widthOf
-equals-2 o [] at y h = h
-equals-2 o (c ∷ cs) at y h = go (eqb c 62) refl
-  where
-    go : (t : Bool) → eqb c 62 ≡ t → Fair o (c ∷ cs) at (cond (eqb c 62) (more 1 (rightArrow o cs (at + 1))) y)
-    go true q =
-        let v : at + widthOf c ≡ at + 1 = ap (λ (j : ℕ). at + widthOf j) (eqb-true c 62 q) in
-        rw q (fair-one o cs at c _ (rw v (arrow-fair o cs (at + 1))))
-    go false q = rw q h
-
-pub equals-fair : (o : ℕ) (cs : List ℕ) (at : ℕ) → Fair o cs at (equals o cs at)
-unfolding equals widthOf
-equals-fair o cs at = fair-mark o 61 EqualsEquals cs at _ refl refl (equals-2 o cs at _ (fair-here o cs at Equals refl))
-
 -- quotes
 module _ (o : ℕ) (cs : List ℕ) (at : ℕ) where
   quoted-fair : (kind : Kind) (code : Code) (f : Found) → isAttribute kind ≡ false
@@ -238,22 +202,6 @@ all-keywords : AllPlain keywords
 unfolding keywords
 all-keywords = (refl, (refl, (refl, (refl, (refl, (refl, (refl, (refl, (refl, (refl, (refl, (refl, (refl, tt)))))))))))))
 
-pub word-fair : (w : List ℕ) (o : ℕ) (cs : List ℕ) (at : ℕ) → Fair o cs at (wordToken w o cs at)
-unfolding wordToken
-word-fair w o cs at =
-    let u = fair-here o cs at Underscore refl in
-    let v = use-fair o cs at in
-    let k = keyword-fair keywords all-keywords w o cs at in
-    search fair-test
-
-pub identifier-fair : (front : List ℕ) (o : ℕ) (cs : List ℕ) (at : ℕ) → Fair o cs at (identifierish front o cs at)
-unfolding identifierish
-identifier-fair front o cs at = go (seek Word cs at) refl
-  where
-    go : (f : Found) → seek Word cs at ≡ f → Fair o cs at (identifierBy front o cs f)
-    go (At p m) e = fair-more o cs at m p _ (seek-at cs at p m Word e) (word-fair _ o (drop m cs) p)
-    go (Nothing p m) e = fair-more o cs at m p _ (seek-none cs at p m Word e) (word-fair _ o (drop m cs) p)
-
 -- regexes
 pub regex-fair : (o h : ℕ) (cs : List ℕ) (at : ℕ) → Fair o cs at (regexToken o h cs at)
 unfolding regexToken
@@ -262,29 +210,6 @@ regex-fair o h cs at = go (regexEnd h cs at) refl
     go : (f : Found) → regexEnd h cs at ≡ f → Fair o cs at (regexBy o h at f)
     go (At p m) e = fair-deliver o cs at RegexLiteral at (p - h) (p + 1) (m + 1) refl (regex-past cs at p m h e)
     go (Nothing p m) e = fair-refuse o cs at _ o p m (regex-none cs at p m h e)
-
-pub hashed-fair : (front : List ℕ) (o h : ℕ) (cs : List ℕ) (p : ℕ) → Fair o cs p (hashed front o h cs p)
-unfolding hashed
-hashed-fair front o h [] p = fair-refuse o [] p _ o p 0 (far-none [] p)
-hashed-fair front o h (c ∷ cs) p =
-    let u = fair-one o cs p c _ (regex-fair o h cs (p + widthOf c)) in
-    let v = fair-one o cs p c _ (identifier-fair front o cs (p + widthOf c)) in
-    let w = far-none (c ∷ cs) p in
-    search (fair-test, fair-refuse)
-
-regex-literal-fair : (front : List ℕ) (o : ℕ) (cs : List ℕ) (at : ℕ) → Fair o cs at (regexLiteral front o cs at)
-unfolding regexLiteral
-regex-literal-fair front o cs at = go (seek Hashes cs at) refl
-  where
-    go : (f : Found) → seek Hashes cs at ≡ f → Fair o cs at (regexLiteralBy front o cs f)
-    go (At p m) e = fair-more o cs at m p _ (seek-at cs at p m Hashes e) (hashed-fair front o m (drop m cs) p)
-    go (Nothing p m) e = fair-refuse o cs at _ o p m (seek-none cs at p m Hashes e)
-
-pub r-fair : (front : List ℕ) (o : ℕ) (cs : List ℕ) (at : ℕ) → Fair o cs at (rWord front o cs at)
-unfolding rWord
-r-fair front o cs at =
-    fair-next o cs at 35 cs _ _ (regex-literal-fair front o cs at)
-    (fair-next o cs at 34 cs _ _ (regex-literal-fair front o cs at) (identifier-fair front o cs at))
 
 -- a call at its first character: a token passes at least one
 abbrev pub MovesIn : ℕ → What → Type 0
@@ -327,11 +252,90 @@ all-singles : AllPlain singles
 unfolding singles
 all-singles = (refl, (refl, (refl, (refl, (refl, (refl, (refl, (refl, (refl, (refl, (refl, (refl, (refl, (refl, tt))))))))))))))
 
-starts-taken : (c : ℕ) (cs : List ℕ) (o : ℕ) → Taken o (c ∷ cs) (starts c cs o (o + widthOf c))
-unfolding starts
-starts-taken c cs o =
-    search (taken-test, taken-one, taken-stray, bang-fair, colon-fair, dot-fair, equals-fair, look-fair, tilde-fair, escape-fair, lifetimeish-fair, string-fair, fair-half, minus-fair, r-fair, identifier-fair) depth 18
+-- in every reading
+module _ (rd : Reading) where
+  -- code
+  module _ (o : ℕ) (cs : List ℕ) (at : ℕ) where
+    code-token-fair : (kind : Kind) (from : ℕ) (x : Skip) (d : ℕ) → isAttribute kind ≡ false → Sound cs at x → Fair o cs at (codeToken kind o from x d)
+    code-token-fair kind from (Past p m) d e h = let f = fair-deliver o cs at kind from p p m e (h .is) in record { far = f .far; span = f .span }
+    code-token-fair kind from (Lost r p m) d e h = record { far = h .is; span = tt }
 
--- every token but those that a hash starts
-pub plain-taken : (c : ℕ) (cs : List ℕ) (o : ℕ) → Taken o (c ∷ cs) (single singles c o (o + widthOf c) (starts c cs o (o + widthOf c)))
-plain-taken c cs o = taken-single c o cs singles all-singles _ (starts-taken c cs o)
+    pub arrow-code-fair : (kind : Kind) → isAttribute kind ≡ false → Fair o cs at (arrowCode rd kind o cs at)
+    unfolding arrowCode
+    arrow-code-fair kind e = code-token-fair kind at _ _ e (code-sound rd o cs at)
+
+    use-fair : Fair o cs at (useToken rd o cs at)
+    unfolding useToken
+    use-fair = code-token-fair Use at _ _ refl (code-sound rd o cs at)
+
+  pub arrow-fair : (o : ℕ) (cs : List ℕ) (at : ℕ) → Fair o cs at (rightArrow rd o cs at)
+  unfolding rightArrow
+  arrow-fair o [] at = fair-refuse o [] at _ o at 0 (far-none [] at)
+  arrow-fair o (c ∷ cs) at =
+      let u = fair-one o cs at c _ (arrow-look-fair o cs (at + widthOf c)) in
+      let v = fair-one o cs at c _ (arrow-code-fair o cs (at + widthOf c) EqualsGreaterThanQuestionCode refl) in
+      let w = arrow-code-fair o (c ∷ cs) at EqualsGreaterThanCode refl in
+      search fair-test
+
+  equals-2 : (o : ℕ) (cs : List ℕ) (at : ℕ) (y : Call) → Fair o cs at y → Fair o cs at (ifNext 62 cs (more 1 (rightArrow rd o (drop 1 cs) (at + 1))) y)
+  unfolding ifNext widthOf
+  equals-2 o [] at y h = h
+  equals-2 o (c ∷ cs) at y h = go (eqb c 62) refl
+    where
+      go : (t : Bool) → eqb c 62 ≡ t → Fair o (c ∷ cs) at (cond (eqb c 62) (more 1 (rightArrow rd o cs (at + 1))) y)
+      go true q =
+          let v : at + widthOf c ≡ at + 1 = ap (λ (j : ℕ). at + widthOf j) (eqb-true c 62 q) in
+          rw q (fair-one o cs at c _ (rw v (arrow-fair o cs (at + 1))))
+      go false q = rw q h
+
+  pub equals-fair : (o : ℕ) (cs : List ℕ) (at : ℕ) → Fair o cs at (equals rd o cs at)
+  unfolding equals widthOf
+  equals-fair o cs at = fair-mark o 61 EqualsEquals cs at _ refl refl (equals-2 o cs at _ (fair-here o cs at Equals refl))
+
+  pub word-fair : (w : List ℕ) (o : ℕ) (cs : List ℕ) (at : ℕ) → Fair o cs at (wordToken rd w o cs at)
+  unfolding wordToken
+  word-fair w o cs at =
+      let u = fair-here o cs at Underscore refl in
+      let v = use-fair o cs at in
+      let k = keyword-fair keywords all-keywords w o cs at in
+      search fair-test
+
+  pub identifier-fair : (front : List ℕ) (o : ℕ) (cs : List ℕ) (at : ℕ) → Fair o cs at (identifierish rd front o cs at)
+  unfolding identifierish
+  identifier-fair front o cs at = go (seek Word cs at) refl
+    where
+      go : (f : Found) → seek Word cs at ≡ f → Fair o cs at (identifierBy rd front o cs f)
+      go (At p m) e = fair-more o cs at m p _ (seek-at cs at p m Word e) (word-fair _ o (drop m cs) p)
+      go (Nothing p m) e = fair-more o cs at m p _ (seek-none cs at p m Word e) (word-fair _ o (drop m cs) p)
+
+  pub hashed-fair : (front : List ℕ) (o h : ℕ) (cs : List ℕ) (p : ℕ) → Fair o cs p (hashed rd front o h cs p)
+  unfolding hashed
+  hashed-fair front o h [] p = fair-refuse o [] p _ o p 0 (far-none [] p)
+  hashed-fair front o h (c ∷ cs) p =
+      let u = fair-one o cs p c _ (regex-fair o h cs (p + widthOf c)) in
+      let v = fair-one o cs p c _ (identifier-fair front o cs (p + widthOf c)) in
+      let w = far-none (c ∷ cs) p in
+      search (fair-test, fair-refuse)
+
+  regex-literal-fair : (front : List ℕ) (o : ℕ) (cs : List ℕ) (at : ℕ) → Fair o cs at (regexLiteral rd front o cs at)
+  unfolding regexLiteral
+  regex-literal-fair front o cs at = go (seek Hashes cs at) refl
+    where
+      go : (f : Found) → seek Hashes cs at ≡ f → Fair o cs at (regexLiteralBy rd front o cs f)
+      go (At p m) e = fair-more o cs at m p _ (seek-at cs at p m Hashes e) (hashed-fair front o m (drop m cs) p)
+      go (Nothing p m) e = fair-refuse o cs at _ o p m (seek-none cs at p m Hashes e)
+
+  pub r-fair : (front : List ℕ) (o : ℕ) (cs : List ℕ) (at : ℕ) → Fair o cs at (rWord rd front o cs at)
+  unfolding rWord
+  r-fair front o cs at =
+      fair-next o cs at 35 cs _ _ (regex-literal-fair front o cs at)
+      (fair-next o cs at 34 cs _ _ (regex-literal-fair front o cs at) (identifier-fair front o cs at))
+
+  starts-taken : (c : ℕ) (cs : List ℕ) (o : ℕ) → Taken o (c ∷ cs) (starts rd c cs o (o + widthOf c))
+  unfolding starts
+  starts-taken c cs o =
+      search (taken-test, taken-one, taken-stray, bang-fair, colon-fair, dot-fair, equals-fair, look-fair, tilde-fair, escape-fair, lifetimeish-fair, string-fair, fair-half, minus-fair, r-fair, identifier-fair) depth 18
+
+  -- every token but those that a hash starts
+  pub plain-taken : (c : ℕ) (cs : List ℕ) (o : ℕ) → Taken o (c ∷ cs) (single singles c o (o + widthOf c) (starts rd c cs o (o + widthOf c)))
+  plain-taken c cs o = taken-single c o cs singles all-singles _ (starts-taken c cs o)

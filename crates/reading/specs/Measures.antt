@@ -10,6 +10,7 @@ use Rattle.utf8.specs.Utf8.{chars, reach, widthOf}
 use Rattle.record.specs.Numbers.{kindNumber}
 use Rattle.record.specs.declared.Kind.{Kind}
 use Rattle.record.specs.declared.Token.{Token}
+use Rattle.record.specs.declared.Reading.{Reading}
 use Rattle.scan.specs.IfNext.{ifNext}
 use Rattle.scan.specs.declared.Skip.the-variants.{Past}
 use Rattle.reading.specs.Attribute.{attempt, dropped}
@@ -43,9 +44,9 @@ unfoldable pub attempts : List ℕ → ℕ → List Token → ℕ
 attempts s shift [] = 0
 attempts s shift (t ∷ ts) = cond (isHash (t .kind)) (wastedAt s (t .start - shift)) 0 + attempts s shift ts
 
--- what is passed after a token of the kind, before the characters cs: the dropped character of an attribute
-abbrev pub tailOf : Kind → List ℕ → ℕ
-tailOf k cs = cond (isAttribute k) (dropped cs) 0
+-- what is passed after a token of the kind, before the characters cs: the dropped character of an attribute, in the old reading
+abbrev pub tailOf : Reading → Kind → List ℕ → ℕ
+tailOf rd k cs = cond (isAttribute k) (dropped rd cs) 0
 
 -- how many characters are hashes, and how many places read #![
 unfoldable pub hashes : List ℕ → ℕ
@@ -61,16 +62,16 @@ marks [] = 0
 marks (c ∷ cs) = cond (readsAttribute (c ∷ cs)) 1 0 + marks cs
 
 -- The characters cs, from the place at, are tiled by the tokens: a gap xs, which holds whitespace and comments only and is all that the gap's
--- reader passes, then the token's characters ys, at least one, then what is dropped after it, zs (one character after an attribute, if there is
--- one; else none); and so on; at last a gap.
-pub data Tiled (shift : ℕ) : List ℕ → ℕ → List Token → Type 0 where
-  gap-last : {cs : List ℕ} {at : ℕ} → gap cs at ≡ Past (reach cs at) (length cs) → Blank [] cs → Tiled shift cs at []
+-- reader passes, then the token's characters ys, at least one, then what is dropped after it, zs (in the old reading one character after an attribute,
+-- if there is one; else none, and in the kept reading always none); and so on; at last a gap.
+pub data Tiled (rd : Reading) (shift : ℕ) : List ℕ → ℕ → List Token → Type 0 where
+  gap-last : {cs : List ℕ} {at : ℕ} → gap cs at ≡ Past (reach cs at) (length cs) → Blank [] cs → Tiled rd shift cs at []
   token-next : {cs : List ℕ} {at : ℕ} {t : Token} {ts : List Token} (xs ys zs rest : List ℕ) → cs ≡ xs ++ (ys ++ (zs ++ rest))
       → gap cs at ≡ Past (reach xs at) (length xs)
       → Blank (ys ++ (zs ++ rest)) xs
       → t .start ≡ reach xs at + shift
       → t .end ≡ reach ys (reach xs at) + shift
       → 0 < length ys
-      → length zs ≡ tailOf (t .kind) (zs ++ rest)
-      → Tiled shift rest (reach zs (reach ys (reach xs at))) ts
-      → Tiled shift cs at (t ∷ ts)
+      → length zs ≡ tailOf rd (t .kind) (zs ++ rest)
+      → Tiled rd shift rest (reach zs (reach ys (reach xs at))) ts
+      → Tiled rd shift cs at (t ∷ ts)

@@ -10,6 +10,7 @@ use lib.ListN.{take}
 use borrow.Author.Tests.{ne-eqb}
 use Rattle.utf8.specs.Utf8.{widthOf}
 use Rattle.record.specs.declared.Kind.{Kind}
+use Rattle.record.specs.declared.Reading.{Reading}
 use Rattle.scan.specs.Far.{Far, after}
 use Rattle.scan.specs.Near.{wide}
 use Rattle.reading.specs.Words.{hashedUnderscore, keywordToken, keywords, spells, underscore, useWord, wordToken}
@@ -34,12 +35,14 @@ spells-own (k ∷ ks) (c ∷ cs) at zero p f = let w = wide c in rw (spells-late
 spells-own (k ∷ ks) (c ∷ cs) at (suc n) p f =
     ap (λ (d : Bool). eqb c k && d) (spells-own ks cs (at + widthOf c) n p (record { within = le-of-suc-le-suc (f .within); there = f .there }))
 
-module _ (cs : List ℕ) (o : ℕ) (rest : List ℕ) (n p : ℕ) (f : Far cs o n p) where
-  keyword-own : (ts : List (List ℕ × Kind)) → keywordToken ts cs o rest p ≡ keywordToken ts (take n cs) o rest p
-  unfolding keywordToken
-  keyword-own [] = refl
-  keyword-own (t ∷ ts) = rw (spells-own (t .0) cs o n p f, keyword-own ts)
+-- in every reading
+module _ (rd : Reading) where
+  module _ (cs : List ℕ) (o : ℕ) (rest : List ℕ) (n p : ℕ) (f : Far cs o n p) where
+    keyword-own : (ts : List (List ℕ × Kind)) → keywordToken ts cs o rest p ≡ keywordToken ts (take n cs) o rest p
+    unfolding keywordToken
+    keyword-own [] = refl
+    keyword-own (t ∷ ts) = rw (spells-own (t .0) cs o n p f, keyword-own ts)
 
-  pub word-own : wordToken cs o rest p ≡ wordToken (take n cs) o rest p
-  unfolding wordToken
-  word-own = rw (spells-own underscore cs o n p f, spells-own hashedUnderscore cs o n p f, spells-own useWord cs o n p f, keyword-own keywords)
+    pub word-own : wordToken rd cs o rest p ≡ wordToken rd (take n cs) o rest p
+    unfolding wordToken
+    word-own = rw (spells-own underscore cs o n p f, spells-own hashedUnderscore cs o n p f, spells-own useWord cs o n p f, keyword-own keywords)

@@ -10,6 +10,7 @@ use Rattle.utf8.specs.Utf8.{widthOf}
 use Rattle.unicode.specs.Identifier.{isIdentifierStart}
 use Rattle.record.specs.declared.Code.the-variants.{ExpectedStringLiteral, UnterminatedStringLiteral}
 use Rattle.record.specs.declared.Kind.the-variants.{RegexLiteral}
+use Rattle.record.specs.declared.Reading.{Reading}
 use Rattle.scan.specs.IfNext.{ifNext}
 use Rattle.scan.specs.Readers.{regexEnd}
 use Rattle.scan.specs.Seek.{seek}
@@ -29,19 +30,19 @@ unfoldable pub regexToken : ℕ → ℕ → List ℕ → ℕ → Call
 regexToken o h cs at = regexBy o h at (regexEnd h cs at)
 
 -- after r at o, where the characters whole stand, and h hashes: a quote, an identifier start, or neither
-unfoldable pub hashed : List ℕ → ℕ → ℕ → List ℕ → ℕ → Call
-hashed whole o h [] p = refuse UnterminatedStringLiteral o p 0
-hashed whole o h (c ∷ cs) p =
+unfoldable pub hashed : Reading → List ℕ → ℕ → ℕ → List ℕ → ℕ → Call
+hashed rd whole o h [] p = refuse UnterminatedStringLiteral o p 0
+hashed rd whole o h (c ∷ cs) p =
     cond (eqb c 'dquote) (more 1 (regexToken o h cs (p + widthOf c)))
-    (cond (isIdentifierStart c) (more 1 (identifierish whole o cs (p + widthOf c))) (refuse ExpectedStringLiteral p p 0))
+    (cond (isIdentifierStart c) (more 1 (identifierish rd whole o cs (p + widthOf c))) (refuse ExpectedStringLiteral p p 0))
 
-abbrev pub regexLiteralBy : List ℕ → ℕ → List ℕ → Found → Call
-regexLiteralBy whole o cs (At p m) = more m (hashed whole o m (drop m cs) p)
-regexLiteralBy whole o cs (Nothing p m) = refuse UnterminatedStringLiteral o p m
+abbrev pub regexLiteralBy : Reading → List ℕ → ℕ → List ℕ → Found → Call
+regexLiteralBy rd whole o cs (At p m) = more m (hashed rd whole o m (drop m cs) p)
+regexLiteralBy rd whole o cs (Nothing p m) = refuse UnterminatedStringLiteral o p m
 
-unfoldable pub regexLiteral : List ℕ → ℕ → List ℕ → ℕ → Call
-regexLiteral whole o cs at = regexLiteralBy whole o cs (seek Hashes cs at)
+unfoldable pub regexLiteral : Reading → List ℕ → ℕ → List ℕ → ℕ → Call
+regexLiteral rd whole o cs at = regexLiteralBy rd whole o cs (seek Hashes cs at)
 
 -- after the letter r at o
-unfoldable pub rWord : List ℕ → ℕ → List ℕ → ℕ → Call
-rWord whole o cs at = ifNext '# cs (regexLiteral whole o cs at) (ifNext 'dquote cs (regexLiteral whole o cs at) (identifierish whole o cs at))
+unfoldable pub rWord : Reading → List ℕ → ℕ → List ℕ → ℕ → Call
+rWord rd whole o cs at = ifNext '# cs (regexLiteral rd whole o cs at) (ifNext 'dquote cs (regexLiteral rd whole o cs at) (identifierish rd whole o cs at))

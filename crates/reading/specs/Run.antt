@@ -1,4 +1,4 @@
--- A run repeats calls. The shift, the work limit (15) and the room (14) are put on here, over any call; 01's is `next`.
+-- A run repeats calls, in the reading of its tokenizer. The shift, the work limit (15) and the room (14) are put on here, over any call; ours is `next`.
 use Prim.Native.Nat.{_+_, _-_, suc, zero, ℕ}
 use mathlib.Core.Bool.{Bool, cond, false, true}
 use mathlib.Core.List.{List, [], _∷_}
@@ -8,6 +8,7 @@ use Rattle.utf8.specs.Utf8.{chars}
 use Rattle.record.specs.Records.{refusal}
 use Rattle.record.specs.declared.Code.the-variants.{NoRoom, WorkLimit}
 use Rattle.record.specs.declared.Token.{Token}
+use Rattle.record.specs.declared.Reading.{Reading}
 use Rattle.reading.specs.Next.{next}
 use Rattle.reading.specs.declared.Call.{Call}
 use Rattle.reading.specs.declared.Outcome.{Outcome}
@@ -47,7 +48,7 @@ stepBy shift limit t x =
     (record { what = Error (refusal WorkLimit (t .at + shift)); next = t; «gap_depth» = 0 })
     (record {
       what = shiftWhat shift (x .what);
-      next = record { at = x .at; count = t .count + x .advances; done = doneBy (shiftWhat shift (x .what)) };
+      next = record { at = x .at; count = t .count + x .advances; done = doneBy (shiftWhat shift (x .what)); reading = t .reading };
       «gap_depth» = x .«gap_depth»;
     })
 
@@ -80,11 +81,11 @@ module _ (rest : ℕ → Tokenizer → Run) (room : ℕ) (t u : Tokenizer) (g : 
   turn (Error r) = stopped (Refused r) u
   turn End = ending g u
 
--- over any call: the characters left, and the place of the first
-module _ (call : List ℕ → ℕ → Call) where
+-- over any call: the reading, the characters left, and the place of the first
+module _ (call : Reading → List ℕ → ℕ → Call) where
   -- 01: "Once a run has answered an error or the end, further calls repeat it with the same count and place"
   abbrev pub stepInWith : Outcome → List ℕ → ℕ → ℕ → Tokenizer → Stepped
-  stepInWith Running s shift limit t = stepBy shift limit t (call (chars (drop (t .at) s)) (t .at))
+  stepInWith Running s shift limit t = stepBy shift limit t (call (t .reading) (chars (drop (t .at) s)) (t .at))
   stepInWith Ended s shift limit t = record { what = End; next = t; «gap_depth» = 0 }
   stepInWith (Refused r) s shift limit t = record { what = Error r; next = t; «gap_depth» = 0 }
 
@@ -101,7 +102,7 @@ module _ (call : List ℕ → ℕ → Call) where
   unfoldable pub runWith : List ℕ → ℕ → ℕ → ℕ → Tokenizer → Run
   runWith s shift limit room t = runFromWith s shift limit (suc (length s)) room t
 
--- 01's reading
+-- with our call
 abbrev pub stepIn : Outcome → List ℕ → ℕ → ℕ → Tokenizer → Stepped
 stepIn = stepInWith next
 

@@ -13,6 +13,7 @@ use Rattle.unicode.specs.Identifier.{isIdentifierStart}
 use Rattle.record.specs.declared.Code.the-variants.{UnterminatedCharacterLiteral, UnterminatedCode}
 use Rattle.record.specs.declared.Kind.the-variants.{CharLiteral, EqualsGreaterThanCode, EqualsGreaterThanQuestionCode, Lifetime}
 use Rattle.record.specs.declared.Refusal.{Refusal}
+use Rattle.record.specs.declared.Reading.{Reading}
 use Rattle.scan.specs.Far.{Far, Lands, far-left, far-none, lands}
 use Rattle.scan.specs.IfNext.{ifNext}
 use Rattle.scan.specs.Passes.{Balance, Good, Sound, seek-at}
@@ -54,20 +55,8 @@ module _ {x : Turn} {p m : ℕ} where
   pub balance-pass : {b b′ : ℕ} → Balance b x → x ≡ Pass p m b′ → b′ ≤ b + 1
   balance-pass h e = (rw e at h) .is
 
+-- after a quote
 module _ (o : ℕ) {s : List ℕ} {at : ℕ} where
-  -- after =>
-  pub arrow-on : {c w : ℕ} → Seen s at c w
-      → rightArrow o (left s at) at
-      ≡ cond (eqb c 'at) (more 1 (arrowLook o (left s (at + w)) (at + w)))
-      (cond (eqb c '?) (more 1 (arrowCode EqualsGreaterThanQuestionCode o (left s (at + w)) (at + w))) (arrowCode EqualsGreaterThanCode o (left s at) at))
-  unfolding rightArrow
-  arrow-on h = rw (h .next, h .width)
-
-  pub arrow-end : Ended s at → rightArrow o (left s at) at ≡ refuse UnterminatedCode o at 0
-  unfolding rightArrow
-  arrow-end h = rw (h .none)
-
-  -- after a quote
   pub lifetimeish-on : {c w : ℕ} → Seen s at c w
       → lifetimeish o (left s at) at ≡ cond (isIdentifierStart c) (lifetimeBy o (left s at) at (seek Word (left s at) at)) (charLiteral o (left s at) at)
   unfolding lifetimeish
@@ -97,3 +86,18 @@ module _ (s : List ℕ) (at p m : ℕ) where
   pub body-lost : (r : Refusal) → walk attributeTurn attributeLast 1 (left s at) at ≡ Lost r p m → attemptBody (left s at) at ≡ Failed p m
   unfolding attemptBody
   body-lost r e = rw e
+
+-- in every reading
+module _ (rd : Reading) where
+  module _ (o : ℕ) {s : List ℕ} {at : ℕ} where
+    -- after =>
+    pub arrow-on : {c w : ℕ} → Seen s at c w
+        → rightArrow rd o (left s at) at
+        ≡ cond (eqb c 'at) (more 1 (arrowLook o (left s (at + w)) (at + w)))
+        (cond (eqb c '?) (more 1 (arrowCode rd EqualsGreaterThanQuestionCode o (left s (at + w)) (at + w))) (arrowCode rd EqualsGreaterThanCode o (left s at) at))
+    unfolding rightArrow
+    arrow-on h = rw (h .next, h .width)
+
+    pub arrow-end : Ended s at → rightArrow rd o (left s at) at ≡ refuse UnterminatedCode o at 0
+    unfolding rightArrow
+    arrow-end h = rw (h .none)

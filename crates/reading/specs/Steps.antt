@@ -15,6 +15,7 @@ use Rattle.unicode.specs.Identifier.{isIdentifierStart}
 use Rattle.unicode.specs.Whitespace.{isWhitespace}
 use Rattle.record.specs.declared.Code.the-variants.{ExpectedStringLiteral, UnterminatedStringLiteral}
 use Rattle.record.specs.declared.Refusal.{Refusal}
+use Rattle.record.specs.declared.Reading.{Reading}
 use Rattle.scan.specs.Deepens.{depth-calm, depth-stop}
 use Rattle.scan.specs.Depth.{depthFrom}
 use Rattle.scan.specs.Far.{Far, far-left, far-none, fits, lands}
@@ -32,7 +33,7 @@ use Rattle.scan.specs.declared.Sought.the-variants.{Hashes, Word}
 use Rattle.scan.specs.declared.Turn.the-variants.{Fail, Pass, Stop}
 use Rattle.reading.specs.Answers.{deliver, fail, more, plain, refuse, told}
 use Rattle.reading.specs.Attribute.{attempt, attributeToken, dropped, hash, hashBy}
-use Rattle.reading.specs.CallLaw.{LaidIn, Tried, attempt-tried, next-laid}
+use Rattle.reading.specs.CallLaw.{LaidIn, Tried, attempt-tried, next-laid, tail-far}
 use Rattle.reading.specs.Calls.{plain-taken}
 use Rattle.reading.specs.Gaps.{commentTurn, gap, gapDepth, gapLast, gapTurn}
 use Rattle.reading.specs.Measures.{isHash, wasted}
@@ -48,16 +49,8 @@ use Rattle.reading.specs.declared.Call.{Call}
 use Rattle.reading.specs.declared.What.{What}
 use Rattle.reading.specs.declared.What.the-variants.{End, Error, Got}
 
+-- a word's letters, one by one
 module _ {s : List ℕ} {at : ℕ} where
-  pub token-on : {c w : ℕ} → Seen s at c w → tokenOrEnd (left s at) at ≡ token c (left s (at + w)) at (at + w)
-  unfolding tokenOrEnd
-  token-on h = rw (h .next, h .width)
-
-  pub token-end : Ended s at → tokenOrEnd (left s at) at ≡ record { what = End; at = at; advances = 0; «gap_depth» = 0; «code_depth» = 0 }
-  unfolding tokenOrEnd
-  token-end h = rw (h .none)
-
-  -- a word's letters, one by one
   pub spells-on : (k : ℕ) (ks : List ℕ) (p : ℕ) {c w : ℕ} → Seen s at c w → spells (k ∷ ks) (left s at) at p ≡ eqb c k && spells ks (left s (at + w)) (at + w) p
   unfolding spells
   spells-on k ks p h = rw (h .next, h .width)
@@ -65,70 +58,6 @@ module _ {s : List ℕ} {at : ℕ} where
   pub spells-end : (k : ℕ) (ks : List ℕ) (p : ℕ) → Ended s at → spells (k ∷ ks) (left s at) at p ≡ false
   unfolding spells
   spells-end k ks p h = rw (h .none)
-
--- a reader, and then another at the place that it came to
-module _ (s : List ℕ) (at p m : ℕ) where
-  pub next-gap : gap (left s at) at ≡ Past p m → next (left s at) at ≡ told (gapDepth (left s at) at) (more m (tokenOrEnd (left s p) p))
-  unfolding next
-  next-gap e =
-      let f : Far (left s at) at m p = (rw e at (gap-sound (left s at) at)) .is in
-      rw (e, far-left s at m p f)
-
-  pub next-lost : (r : Refusal) → gap (left s at) at ≡ Lost r p m → next (left s at) at ≡ fail r p m
-  unfolding next
-  next-lost r e = rw e
-
-  module _ (whole : List ℕ) (o : ℕ) where
-    pub word-at : seek Word (left s at) at ≡ At p m → identifierish whole o (left s at) at ≡ more m (wordToken whole o (left s p) p)
-    unfolding identifierish
-    word-at e = rw (e, far-left s at m p (seek-at (left s at) at p m Word e))
-
-    pub word-none : seek Word (left s at) at ≡ Nothing p m → identifierish whole o (left s at) at ≡ more m (wordToken whole o (left s p) p)
-    unfolding identifierish
-    word-none e = rw (e, far-left s at m p (seek-none (left s at) at p m Word e))
-
-    pub regex-at : seek Hashes (left s at) at ≡ At p m → regexLiteral whole o (left s at) at ≡ more m (hashed whole o m (left s p) p)
-    unfolding regexLiteral
-    regex-at e = rw (e, far-left s at m p (seek-at (left s at) at p m Hashes e))
-
-    pub regex-never : seek Hashes (left s at) at ≡ Nothing p m → regexLiteral whole o (left s at) at ≡ refuse UnterminatedStringLiteral o p m
-    unfolding regexLiteral
-    regex-never e = rw e
-
-  pub hash-closed : (o : ℕ) → attempt (left s at) at ≡ Closed p m → hash o (left s at) at ≡ more m (attributeToken o (left s p) p)
-  unfolding hash
-  hash-closed o e =
-      let f : Far (left s at) at m p = (rw e at (attempt-tried (left s at) at)) .is in
-      rw (e, far-left s at m p f)
-
--- a token's advances are no more than the characters that are left, a failed attempt's among them
-hash-most : (o : ℕ) (cs : List ℕ) (at : ℕ) → hash o cs at .advances ≤ length cs
-unfolding hash more attributeToken plain deliver dropped
-hash-most o cs at = go (attempt cs at) (attempt-tried cs at)
-  where
-    tail : (l : List ℕ) → dropped l ≤ length l
-    tail [] = omega arith
-    tail (c ∷ l) = omega arith
-
-    go : (x : Attempt) → Tried cs at x → hashBy o cs at x .advances ≤ length cs
-    go (Closed p m) h = let f : Far cs at m p = h .is in omega (arith, f .within, tail (drop m cs), length-drop m cs)
-    go (Failed p m) h = h .is .within
-
-token-most : (cs : List ℕ) (o : ℕ) → tokenOrEnd cs o .advances ≤ length cs
-unfolding tokenOrEnd token more
-token-most [] o = omega arith
-token-most (c ∷ cs) o = go (eqb c 35) refl
-  where
-    go : (t : Bool) → eqb c 35 ≡ t → token c cs o (o + widthOf c) .advances ≤ length (c ∷ cs)
-    go true q = rw q (omega (arith, hash-most o cs (o + widthOf c)))
-    go false q = rw q ((plain-taken c cs o) .fair .far .within)
-
-module _ (s : List ℕ) (at : ℕ) {x : Call} where
-  pub hash-fits : (o : ℕ) → x ≡ hash o (left s at) at → x .advances ≤ length s
-  hash-fits o e = omega (arith, ap (λ (z : Call). z .advances) e, hash-most o (left s at) at, fits s at)
-
-  pub token-fits : x ≡ tokenOrEnd (left s at) at → x .advances ≤ length s
-  token-fits e = omega (arith, ap (λ (z : Call). z .advances) e, token-most (left s at) at, fits s at)
 
 -- a regex that is closed has its hashes in the text
 done-hashes : (h st : ℕ) → regDone h st ≡ true → h + 1 ≡ st
@@ -155,41 +84,6 @@ regex-hashes h (c ∷ cs) st at n p m l e =
 pub record Within (s : List ℕ) (at : ℕ) (x : Call) : Type 0 where
   pub room : x .at ≤ length s
   pub most : x .advances ≤ 2 * length (left s at)
-
-within-in : (s : List ℕ) (at : ℕ) → at ≤ length s → (p n : ℕ) (w : What) → LaidIn (left s at) at p n w → (p ≤ length s) × (n ≤ 2 * length (left s at))
-within-in s at l p n (Got t) h =
-    let f = placed-far (left s at) at t p n h in
-    let y = lands (passedBy h) s at p f in
-    let c = cost-le (isHash (t .kind)) (wasted (drop (h .gapped) (left s at)) (t .start)) in
-    let d = wasted-most (drop (h .gapped) (left s at)) (t .start) in
-    let e = length-drop (h .gapped) (left s at) in
-    let g = f .within in
-    let z = h .spent in
-    (y .room l, omega (arith, c, d, e, g, z))
-within-in s at l p n (Error r) h = let y = lands n s at p h in (y .room l, omega (arith, h .within))
-within-in s at l p n End h =
-    let f : Far (left s at) at n p = (rw (h .0) at (gap-sound (left s at) at)) .is in
-    let y = lands n s at p f in
-    (y .room l, omega (arith, h .1))
-
-pub call-within : (s : List ℕ) (at : ℕ) → at ≤ length s → Within s at (next (left s at) at)
-call-within s at l =
-    let x = next (left s at) at in
-    let h = within-in s at l (x .at) (x .advances) (x .what) ((next-laid (left s at) at) .is) in
-    record { room = h .0; most = h .1 }
-
--- after r and hashes, by the code's own sight of what follows them
-module _ (whole : List ℕ) (o h : ℕ) {s : List ℕ} {at : ℕ} where
-  pub hashed-on : {k w : ℕ} → Seen s at k w
-      → hashed whole o h (left s at) at
-      ≡ cond (eqb k 34) (more 1 (regexToken o h (left s (at + w)) (at + w)))
-      (cond (isIdentifierStart k) (more 1 (identifierish whole o (left s (at + w)) (at + w))) (refuse ExpectedStringLiteral at at 0))
-  unfolding hashed
-  hashed-on z = rw (z .next, z .width)
-
-  pub hashed-end : Ended s at → hashed whole o h (left s at) at ≡ refuse UnterminatedStringLiteral o at 0
-  unfolding hashed
-  hashed-end z = rw (z .none)
 
 -- the letters of a word, as a loop over them compares them
 module _ {s : List ℕ} {at : ℕ} (word : List ℕ) (i p : ℕ) where
@@ -324,15 +218,121 @@ module _ (s : List ℕ) where
       let q : 0 + (to - from) ≡ to - from = omega arith in
       (sym (rw q at (gap-run from to 0 e)) ∙ gap-over to (to - from) l a n w, sym (level-run 0 from to e) ∙ over-level to 0 l a n w)
 
--- the dispatch: at a character that the rules name it computes; any other starts a longer symbol, a word or nothing
-pub token-starts : (c : ℕ) (cs : List ℕ) (o next : ℕ) → (c ≡ 35 → ⊥) → (c ≡ 38 → ⊥) → (c ≡ 44 → ⊥) → (c ≡ 62 → ⊥) → (c ≡ 123 → ⊥) → (c ≡ 91 → ⊥) → (c ≡ 40 → ⊥) → (c ≡ 60 → ⊥) → (c ≡ 43 → ⊥) → (c ≡ 63 → ⊥) → (c ≡ 125 → ⊥) → (c ≡ 93 → ⊥) → (c ≡ 41 → ⊥) → (c ≡ 59 → ⊥) → (c ≡ 42 → ⊥)
-    → token c cs o next ≡ starts c cs o next
-unfolding token single singles
-token-starts c cs o next h0 h1 h2 h3 h4 h5 h6 h7 h8 h9 h10 h11 h12 h13 h14 =
-    simp (ne-eqb c 35 h0, ne-eqb c 38 h1, ne-eqb c 44 h2, ne-eqb c 62 h3, ne-eqb c 123 h4, ne-eqb c 91 h5, ne-eqb c 40 h6, ne-eqb c 60 h7, ne-eqb c 43 h8, ne-eqb c 63 h9, ne-eqb c 125 h10, ne-eqb c 93 h11, ne-eqb c 41 h12, ne-eqb c 59 h13, ne-eqb c 42 h14)
+-- in every reading
+module _ (rd : Reading) where
+  module _ {s : List ℕ} {at : ℕ} where
+    pub token-on : {c w : ℕ} → Seen s at c w → tokenOrEnd rd (left s at) at ≡ token rd c (left s (at + w)) at (at + w)
+    unfolding tokenOrEnd
+    token-on h = rw (h .next, h .width)
 
-pub starts-other : (c : ℕ) (cs : List ℕ) (o next : ℕ) → (c ≡ 33 → ⊥) → (c ≡ 58 → ⊥) → (c ≡ 46 → ⊥) → (c ≡ 61 → ⊥) → (c ≡ 64 → ⊥) → (c ≡ 126 → ⊥) → (c ≡ 96 → ⊥) → (c ≡ 39 → ⊥) → (c ≡ 34 → ⊥) → (c ≡ 47 → ⊥) → (c ≡ 45 → ⊥) → (c ≡ 114 → ⊥)
-    → starts c cs o next ≡ cond (isIdentifierStart c) (more 1 (identifierish (c ∷ cs) o cs next)) (stray o)
-unfolding starts
-starts-other c cs o next h0 h1 h2 h3 h4 h5 h6 h7 h8 h9 h10 h11 =
-    simp (ne-eqb c 33 h0, ne-eqb c 58 h1, ne-eqb c 46 h2, ne-eqb c 61 h3, ne-eqb c 64 h4, ne-eqb c 126 h5, ne-eqb c 96 h6, ne-eqb c 39 h7, ne-eqb c 34 h8, ne-eqb c 47 h9, ne-eqb c 45 h10, ne-eqb c 114 h11)
+    pub token-end : Ended s at → tokenOrEnd rd (left s at) at ≡ record { what = End; at = at; advances = 0; «gap_depth» = 0; «code_depth» = 0 }
+    unfolding tokenOrEnd
+    token-end h = rw (h .none)
+
+  -- a reader, and then another at the place that it came to
+  module _ (s : List ℕ) (at p m : ℕ) where
+    pub next-gap : gap (left s at) at ≡ Past p m → next rd (left s at) at ≡ told (gapDepth (left s at) at) (more m (tokenOrEnd rd (left s p) p))
+    unfolding next
+    next-gap e =
+        let f : Far (left s at) at m p = (rw e at (gap-sound (left s at) at)) .is in
+        rw (e, far-left s at m p f)
+
+    pub next-lost : (r : Refusal) → gap (left s at) at ≡ Lost r p m → next rd (left s at) at ≡ fail r p m
+    unfolding next
+    next-lost r e = rw e
+
+    module _ (whole : List ℕ) (o : ℕ) where
+      pub word-at : seek Word (left s at) at ≡ At p m → identifierish rd whole o (left s at) at ≡ more m (wordToken rd whole o (left s p) p)
+      unfolding identifierish
+      word-at e = rw (e, far-left s at m p (seek-at (left s at) at p m Word e))
+
+      pub word-none : seek Word (left s at) at ≡ Nothing p m → identifierish rd whole o (left s at) at ≡ more m (wordToken rd whole o (left s p) p)
+      unfolding identifierish
+      word-none e = rw (e, far-left s at m p (seek-none (left s at) at p m Word e))
+
+      pub regex-at : seek Hashes (left s at) at ≡ At p m → regexLiteral rd whole o (left s at) at ≡ more m (hashed rd whole o m (left s p) p)
+      unfolding regexLiteral
+      regex-at e = rw (e, far-left s at m p (seek-at (left s at) at p m Hashes e))
+
+      pub regex-never : seek Hashes (left s at) at ≡ Nothing p m → regexLiteral rd whole o (left s at) at ≡ refuse UnterminatedStringLiteral o p m
+      unfolding regexLiteral
+      regex-never e = rw e
+
+    pub hash-closed : (o : ℕ) → attempt (left s at) at ≡ Closed p m → hash rd o (left s at) at ≡ more m (attributeToken rd o (left s p) p)
+    unfolding hash
+    hash-closed o e =
+        let f : Far (left s at) at m p = (rw e at (attempt-tried (left s at) at)) .is in
+        rw (e, far-left s at m p f)
+
+  -- a token's advances are no more than the characters that are left, a failed attempt's among them
+  hash-most : (o : ℕ) (cs : List ℕ) (at : ℕ) → hash rd o cs at .advances ≤ length cs
+  unfolding hash more attributeToken plain deliver dropped
+  hash-most o cs at = go (attempt cs at) (attempt-tried cs at)
+    where
+      go : (x : Attempt) → Tried cs at x → hashBy rd o cs at x .advances ≤ length cs
+      go (Closed p m) h = let f : Far cs at m p = h .is in omega (arith, f .within, tail-far rd (drop m cs) p .within, length-drop m cs)
+      go (Failed p m) h = h .is .within
+
+  token-most : (cs : List ℕ) (o : ℕ) → tokenOrEnd rd cs o .advances ≤ length cs
+  unfolding tokenOrEnd token more
+  token-most [] o = omega arith
+  token-most (c ∷ cs) o = go (eqb c 35) refl
+    where
+      go : (t : Bool) → eqb c 35 ≡ t → token rd c cs o (o + widthOf c) .advances ≤ length (c ∷ cs)
+      go true q = rw q (omega (arith, hash-most o cs (o + widthOf c)))
+      go false q = rw q ((plain-taken rd c cs o) .fair .far .within)
+
+  module _ (s : List ℕ) (at : ℕ) {x : Call} where
+    pub hash-fits : (o : ℕ) → x ≡ hash rd o (left s at) at → x .advances ≤ length s
+    hash-fits o e = omega (arith, ap (λ (z : Call). z .advances) e, hash-most o (left s at) at, fits s at)
+
+    pub token-fits : x ≡ tokenOrEnd rd (left s at) at → x .advances ≤ length s
+    token-fits e = omega (arith, ap (λ (z : Call). z .advances) e, token-most (left s at) at, fits s at)
+
+  within-in : (s : List ℕ) (at : ℕ) → at ≤ length s → (p n : ℕ) (w : What) → LaidIn rd (left s at) at p n w → (p ≤ length s) × (n ≤ 2 * length (left s at))
+  within-in s at l p n (Got t) h =
+      let f = placed-far rd (left s at) at t p n h in
+      let y = lands (passedBy rd h) s at p f in
+      let c = cost-le (isHash (t .kind)) (wasted (drop (h .gapped) (left s at)) (t .start)) in
+      let d = wasted-most (drop (h .gapped) (left s at)) (t .start) in
+      let e = length-drop (h .gapped) (left s at) in
+      let g = f .within in
+      let z = h .spent in
+      (y .room l, omega (arith, c, d, e, g, z))
+  within-in s at l p n (Error r) h = let y = lands n s at p h in (y .room l, omega (arith, h .within))
+  within-in s at l p n End h =
+      let f : Far (left s at) at n p = (rw (h .0) at (gap-sound (left s at) at)) .is in
+      let y = lands n s at p f in
+      (y .room l, omega (arith, h .1))
+
+  pub call-within : (s : List ℕ) (at : ℕ) → at ≤ length s → Within s at (next rd (left s at) at)
+  call-within s at l =
+      let x = next rd (left s at) at in
+      let h = within-in s at l (x .at) (x .advances) (x .what) ((next-laid rd (left s at) at) .is) in
+      record { room = h .0; most = h .1 }
+
+  -- after r and hashes, by the code's own sight of what follows them
+  module _ (whole : List ℕ) (o h : ℕ) {s : List ℕ} {at : ℕ} where
+    pub hashed-on : {k w : ℕ} → Seen s at k w
+        → hashed rd whole o h (left s at) at
+        ≡ cond (eqb k 34) (more 1 (regexToken o h (left s (at + w)) (at + w)))
+        (cond (isIdentifierStart k) (more 1 (identifierish rd whole o (left s (at + w)) (at + w))) (refuse ExpectedStringLiteral at at 0))
+    unfolding hashed
+    hashed-on z = rw (z .next, z .width)
+
+    pub hashed-end : Ended s at → hashed rd whole o h (left s at) at ≡ refuse UnterminatedStringLiteral o at 0
+    unfolding hashed
+    hashed-end z = rw (z .none)
+
+  -- the dispatch: at a character that the rules name it computes; any other starts a longer symbol, a word or nothing
+  pub token-starts : (c : ℕ) (cs : List ℕ) (o next : ℕ) → (c ≡ 35 → ⊥) → (c ≡ 38 → ⊥) → (c ≡ 44 → ⊥) → (c ≡ 62 → ⊥) → (c ≡ 123 → ⊥) → (c ≡ 91 → ⊥) → (c ≡ 40 → ⊥) → (c ≡ 60 → ⊥) → (c ≡ 43 → ⊥) → (c ≡ 63 → ⊥) → (c ≡ 125 → ⊥) → (c ≡ 93 → ⊥) → (c ≡ 41 → ⊥) → (c ≡ 59 → ⊥) → (c ≡ 42 → ⊥)
+      → token rd c cs o next ≡ starts rd c cs o next
+  unfolding token single singles
+  token-starts c cs o next h0 h1 h2 h3 h4 h5 h6 h7 h8 h9 h10 h11 h12 h13 h14 =
+      simp (ne-eqb c 35 h0, ne-eqb c 38 h1, ne-eqb c 44 h2, ne-eqb c 62 h3, ne-eqb c 123 h4, ne-eqb c 91 h5, ne-eqb c 40 h6, ne-eqb c 60 h7, ne-eqb c 43 h8, ne-eqb c 63 h9, ne-eqb c 125 h10, ne-eqb c 93 h11, ne-eqb c 41 h12, ne-eqb c 59 h13, ne-eqb c 42 h14)
+
+  pub starts-other : (c : ℕ) (cs : List ℕ) (o next : ℕ) → (c ≡ 33 → ⊥) → (c ≡ 58 → ⊥) → (c ≡ 46 → ⊥) → (c ≡ 61 → ⊥) → (c ≡ 64 → ⊥) → (c ≡ 126 → ⊥) → (c ≡ 96 → ⊥) → (c ≡ 39 → ⊥) → (c ≡ 34 → ⊥) → (c ≡ 47 → ⊥) → (c ≡ 45 → ⊥) → (c ≡ 114 → ⊥)
+      → starts rd c cs o next ≡ cond (isIdentifierStart c) (more 1 (identifierish rd (c ∷ cs) o cs next)) (stray o)
+  unfolding starts
+  starts-other c cs o next h0 h1 h2 h3 h4 h5 h6 h7 h8 h9 h10 h11 =
+      simp (ne-eqb c 33 h0, ne-eqb c 58 h1, ne-eqb c 46 h2, ne-eqb c 61 h3, ne-eqb c 64 h4, ne-eqb c 126 h5, ne-eqb c 96 h6, ne-eqb c 39 h7, ne-eqb c 34 h8, ne-eqb c 47 h9, ne-eqb c 45 h10, ne-eqb c 114 h11)

@@ -9,6 +9,7 @@ use lib.ListN.{drop, length, length-drop, take}
 use lib.Seq.{drop-drop, length-take-le, take-length}
 use Rattle.utf8.specs.Utf8.{reach, widthOf}
 use Rattle.record.specs.declared.Token.{Token}
+use Rattle.record.specs.declared.Reading.{Reading}
 use Rattle.scan.specs.Far.{Far, after, far-left, then}
 use Rattle.scan.specs.IfNext.{ifNext}
 use Rattle.scan.specs.Until.{left}
@@ -33,29 +34,6 @@ far-whole cs at p f = far-reach cs at (length cs) p f ∙ ap (λ (l : List ℕ).
 
 pub far-length : (cs : List ℕ) (at m p : ℕ) → Far cs at m p → length (take m cs) ≡ m
 far-length cs at m p f = length-take-le m cs (f .within)
-
--- the characters left after m of them
-
--- gap, token and dropped character together
-abbrev pub passedBy : {cs : List ℕ} {at : ℕ} {t : Token} {p n : ℕ} → Placed cs at t p n → ℕ
-passedBy {cs} {at} {t} h = h .gapped + (h .width + tailOf (t .kind) (drop (h .width) (drop (h .gapped) cs)))
-
-pub placed-far : (cs : List ℕ) (at : ℕ) (t : Token) (p n : ℕ) (h : Placed cs at t p n) → Far cs at (passedBy h) p
-placed-far cs at t p n h = then (h .gapped) cs at (t .start) _ p (h .gap-far) (then (h .width) (drop (h .gapped) cs) (t .start) (t .end) _ p (h .span) (h .tail))
-
-pub placed-length : (s : List ℕ) (at : ℕ) (t : Token) (p n : ℕ) (h : Placed (left s at) at t p n) → length (left s at) ≡ passedBy h + length (left s p)
-placed-length s at t p n h =
-    let f = placed-far (left s at) at t p n h in
-    let w : passedBy h ≤ length (left s at) = f .within in
-    let e : length (left s p) ≡ length (left s at) - passedBy h = ap length (sym (far-left s at (passedBy h) p f)) ∙ length-drop (passedBy h) (left s at) in
-    omega (arith, w, e)
-
--- the failed attempt at the token, on the text
-pub placed-cost : (s : List ℕ) (shift at : ℕ) (t : Token) (p n : ℕ) (h : Placed (left s at) at t p n)
-    → cond (isHash (t .kind)) (wasted (drop (h .gapped) (left s at)) (t .start)) 0 ≡ cond (isHash (t .kind)) (wastedAt s (t .start + shift - shift)) 0
-placed-cost s shift at t p n h =
-    let e : t .start + shift - shift ≡ t .start = omega arith in
-    rw (e, far-left s at (h .gapped) (t .start) (h .gap-far))
 
 -- what a place may cost: N where #![ is read, 2 at any other hash
 unfoldable pub weigh : ℕ → List ℕ → ℕ
@@ -145,24 +123,6 @@ pub cost-le : (b : Bool) (w : ℕ) → cond b w 0 ≤ w
 cost-le true w = omega arith
 cost-le false w = omega arith
 
--- a call pays from the weight of what it passes
-pub placed-weight : (s : List ℕ) (at : ℕ) (t : Token) (p n m : ℕ) (h : Placed (left s at) at t p m) → length (left s at) ≤ n
-    → cond (isHash (t .kind)) (wasted (drop (h .gapped) (left s at)) (t .start)) 0 + weight n (left s p) ≤ weight n (left s at)
-placed-weight s at t p n m h l =
-    let cs = left s at in
-    let g = h .gapped in
-    let k = h .width + tailOf (t .kind) (drop (h .width) (drop g cs)) in
-    let a = cost-le (isHash (t .kind)) (wasted (drop g cs) (t .start)) in
-    let b = wasted-le n (drop g cs) (t .start) (omega (arith, length-drop g cs)) in
-    let c = weight-first n (drop g cs) in
-    let d = weight-drop n g cs in
-    let e = weight-drop n (k - 1) (drop 1 (drop g cs)) in
-    let j : 1 + (k - 1) ≡ k = omega (arith, h .some) in
-    let q : drop (k - 1) (drop 1 (drop g cs)) ≡ left s p =
-    drop-drop (k - 1) 1 (drop g cs) ∙ ap (λ (i : ℕ). drop i (drop g cs)) j ∙ drop-drop k g cs ∙ far-left s at (g + k) p (placed-far cs at t p m h) in
-    let f : weight n (left s p) ≤ weight n (drop 1 (drop g cs)) = rw q at e in
-    omega (arith, a, b, c, d, f)
-
 pub wasted-most : (cs : List ℕ) (o : ℕ) → wasted cs o ≤ length cs
 unfolding wasted
 wasted-most [] o = omega arith
@@ -174,3 +134,44 @@ wasted-most (c ∷ cs) o =
     go : (b : Bool) (n : ℕ) → cond b n 0 ≤ n
     go true n = omega arith
     go false n = omega arith
+
+-- in every reading
+module _ (rd : Reading) where
+  -- gap, token and dropped character together
+  abbrev pub passedBy : {cs : List ℕ} {at : ℕ} {t : Token} {p n : ℕ} → Placed rd cs at t p n → ℕ
+  passedBy {cs} {at} {t} h = h .gapped + (h .width + tailOf rd (t .kind) (drop (h .width) (drop (h .gapped) cs)))
+
+  pub placed-far : (cs : List ℕ) (at : ℕ) (t : Token) (p n : ℕ) (h : Placed rd cs at t p n) → Far cs at (passedBy h) p
+  placed-far cs at t p n h = then (h .gapped) cs at (t .start) _ p (h .gap-far) (then (h .width) (drop (h .gapped) cs) (t .start) (t .end) _ p (h .span) (h .tail))
+
+  pub placed-length : (s : List ℕ) (at : ℕ) (t : Token) (p n : ℕ) (h : Placed rd (left s at) at t p n) → length (left s at) ≡ passedBy h + length (left s p)
+  placed-length s at t p n h =
+      let f = placed-far (left s at) at t p n h in
+      let w : passedBy h ≤ length (left s at) = f .within in
+      let e : length (left s p) ≡ length (left s at) - passedBy h = ap length (sym (far-left s at (passedBy h) p f)) ∙ length-drop (passedBy h) (left s at) in
+      omega (arith, w, e)
+
+  -- the failed attempt at the token, on the text
+  pub placed-cost : (s : List ℕ) (shift at : ℕ) (t : Token) (p n : ℕ) (h : Placed rd (left s at) at t p n)
+      → cond (isHash (t .kind)) (wasted (drop (h .gapped) (left s at)) (t .start)) 0 ≡ cond (isHash (t .kind)) (wastedAt s (t .start + shift - shift)) 0
+  placed-cost s shift at t p n h =
+      let e : t .start + shift - shift ≡ t .start = omega arith in
+      rw (e, far-left s at (h .gapped) (t .start) (h .gap-far))
+
+  -- a call pays from the weight of what it passes
+  pub placed-weight : (s : List ℕ) (at : ℕ) (t : Token) (p n m : ℕ) (h : Placed rd (left s at) at t p m) → length (left s at) ≤ n
+      → cond (isHash (t .kind)) (wasted (drop (h .gapped) (left s at)) (t .start)) 0 + weight n (left s p) ≤ weight n (left s at)
+  placed-weight s at t p n m h l =
+      let cs = left s at in
+      let g = h .gapped in
+      let k = h .width + tailOf rd (t .kind) (drop (h .width) (drop g cs)) in
+      let a = cost-le (isHash (t .kind)) (wasted (drop g cs) (t .start)) in
+      let b = wasted-le n (drop g cs) (t .start) (omega (arith, length-drop g cs)) in
+      let c = weight-first n (drop g cs) in
+      let d = weight-drop n g cs in
+      let e = weight-drop n (k - 1) (drop 1 (drop g cs)) in
+      let j : 1 + (k - 1) ≡ k = omega (arith, h .some) in
+      let q : drop (k - 1) (drop 1 (drop g cs)) ≡ left s p =
+      drop-drop (k - 1) 1 (drop g cs) ∙ ap (λ (i : ℕ). drop i (drop g cs)) j ∙ drop-drop k g cs ∙ far-left s at (g + k) p (placed-far cs at t p m h) in
+      let f : weight n (left s p) ≤ weight n (drop 1 (drop g cs)) = rw q at e in
+      omega (arith, a, b, c, d, f)

@@ -9,6 +9,7 @@ use Rattle.utf8.specs.Utf8.{widthOf}
 use Rattle.record.specs.declared.Code.the-variants.{HalfSymbol, StrayCharacter, UnterminatedCode}
 use Rattle.record.specs.declared.Kind.{Kind}
 use Rattle.record.specs.declared.Kind.the-variants.{Ampersand, Bang, BangEquals, BangTilde, Colon, ColonColon, Comma, DotDot, Equals, EqualsEquals, EqualsGreaterThanCode, EqualsGreaterThanLookahead, EqualsGreaterThanLookbehind, EqualsGreaterThanQuestionCode, GreaterThan, LeftBrace, LeftBracket, LeftParen, LessThan, Lookahead, Lookbehind, MinusGreaterThan, Plus, Question, RightBrace, RightBracket, RightParen, Semi, Star, TildeTilde}
+use Rattle.record.specs.declared.Reading.{Reading}
 use Rattle.scan.specs.IfNext.{ifNext}
 use Rattle.code.specs.Code.{codeDepth, codeEnd}
 use Rattle.reading.specs.Answers.{more, plain, refuse}
@@ -56,15 +57,15 @@ unfoldable pub arrowLook : ℕ → List ℕ → ℕ → Call
 arrowLook o cs at =
     ifNext 'L cs (plain EqualsGreaterThanLookahead o (at + 1) 1) (ifNext 'R cs (plain EqualsGreaterThanLookbehind o (at + 1) 1) (half o at))
 
-unfoldable pub arrowCode : Kind → ℕ → List ℕ → ℕ → Call
-arrowCode kind o cs at = codeToken kind o at (codeEnd o cs at) (codeDepth cs at)
+unfoldable pub arrowCode : Reading → Kind → ℕ → List ℕ → ℕ → Call
+arrowCode rd kind o cs at = codeToken kind o at (codeEnd rd o cs at) (codeDepth rd cs at)
 
 -- after =>. 01: "`=>` at the end of text is 8"
-unfoldable pub rightArrow : ℕ → List ℕ → ℕ → Call
-rightArrow o [] at = refuse UnterminatedCode o at 0
-rightArrow o (c ∷ cs) at =
+unfoldable pub rightArrow : Reading → ℕ → List ℕ → ℕ → Call
+rightArrow rd o [] at = refuse UnterminatedCode o at 0
+rightArrow rd o (c ∷ cs) at =
     cond (eqb c 'at) (more 1 (arrowLook o cs (at + widthOf c)))
-    (cond (eqb c '?) (more 1 (arrowCode EqualsGreaterThanQuestionCode o cs (at + widthOf c))) (arrowCode EqualsGreaterThanCode o (c ∷ cs) at))
+    (cond (eqb c '?) (more 1 (arrowCode rd EqualsGreaterThanQuestionCode o cs (at + widthOf c))) (arrowCode rd EqualsGreaterThanCode o (c ∷ cs) at))
 
-unfoldable pub equals : ℕ → List ℕ → ℕ → Call
-equals o cs at = ifNext '= cs (plain EqualsEquals o (at + 1) 1) (ifNext '> cs (more 1 (rightArrow o (drop 1 cs) (at + 1))) (plain Equals o at 0))
+unfoldable pub equals : Reading → ℕ → List ℕ → ℕ → Call
+equals rd o cs at = ifNext '= cs (plain EqualsEquals o (at + 1) 1) (ifNext '> cs (more 1 (rightArrow rd o (drop 1 cs) (at + 1))) (plain Equals o at 0))

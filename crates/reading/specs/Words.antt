@@ -8,6 +8,7 @@ use Rattle.utf8.specs.Chars.{'#, '<, 'a, 'b, 'c, 'd, 'e, 'f, 'g, 'h, 'i, 'l, 'm
 use Rattle.utf8.specs.Utf8.{widthOf}
 use Rattle.record.specs.declared.Kind.{Kind}
 use Rattle.record.specs.declared.Kind.the-variants.{Dyn, Else, Enum, Extern, For, Grammar, Id, If, In, MacroId, Match, Mut, Pub, Underscore, Use, Where, «Type»}
+use Rattle.record.specs.declared.Reading.{Reading}
 use Rattle.scan.specs.IfNext.{ifNext}
 use Rattle.scan.specs.Seek.{seek}
 use Rattle.scan.specs.declared.Found.{Found}
@@ -50,8 +51,8 @@ abbrev pub codeToken : Kind → ℕ → ℕ → Skip → ℕ → Call
 codeToken kind o from (Past p m) d = coded d (deliver kind o from p p m)
 codeToken kind o from (Lost r p m) d = fail r p m
 
-unfoldable pub useToken : ℕ → List ℕ → ℕ → Call
-useToken o rest p = codeToken Use o p (codeEnd o rest p) (codeDepth rest p)
+unfoldable pub useToken : Reading → ℕ → List ℕ → ℕ → Call
+useToken rd o rest p = codeToken Use o p (codeEnd rd o rest p) (codeDepth rd rest p)
 
 -- no keyword: "MacroId if < follows at once, else Id"
 unfoldable pub idToken : ℕ → List ℕ → ℕ → Call
@@ -63,16 +64,16 @@ keywordToken [] cs o rest p = idToken o rest p
 keywordToken (k ∷ ks) cs o rest p = cond (spells (k .0) cs o p) (plain (k .1) o p 0) (keywordToken ks cs o rest p)
 
 -- the word from o to p: the characters cs stand at o, the characters rest at p
-unfoldable pub wordToken : List ℕ → ℕ → List ℕ → ℕ → Call
-wordToken cs o rest p =
+unfoldable pub wordToken : Reading → List ℕ → ℕ → List ℕ → ℕ → Call
+wordToken rd cs o rest p =
     cond (spells underscore cs o p) (plain Underscore o p 0)
     (cond (spells hashedUnderscore cs o p) (plain Underscore o p 0)
-    (cond (spells useWord cs o p) (useToken o rest p) (keywordToken keywords cs o rest p)))
+    (cond (spells useWord cs o p) (useToken rd o rest p) (keywordToken keywords cs o rest p)))
 
 -- the rest of a word that starts at o, where the characters whole stand; the characters cs stand at at
-abbrev pub identifierBy : List ℕ → ℕ → List ℕ → Found → Call
-identifierBy whole o cs (At p m) = more m (wordToken whole o (drop m cs) p)
-identifierBy whole o cs (Nothing p m) = more m (wordToken whole o (drop m cs) p)
+abbrev pub identifierBy : Reading → List ℕ → ℕ → List ℕ → Found → Call
+identifierBy rd whole o cs (At p m) = more m (wordToken rd whole o (drop m cs) p)
+identifierBy rd whole o cs (Nothing p m) = more m (wordToken rd whole o (drop m cs) p)
 
-unfoldable pub identifierish : List ℕ → ℕ → List ℕ → ℕ → Call
-identifierish whole o cs at = identifierBy whole o cs (seek Word cs at)
+unfoldable pub identifierish : Reading → List ℕ → ℕ → List ℕ → ℕ → Call
+identifierish rd whole o cs at = identifierBy rd whole o cs (seek Word cs at)

@@ -1,6 +1,7 @@
 // What a call and a run answer. The reading rules stand in specs/, as definitions over characters; `words` and `tok` have the code.
 use record::Code;
 use record::Kind;
+use record::Reading;
 use record::Refusal;
 use record::Token;
 ghost use mathlib.Core.Path.{_≡_};
@@ -35,10 +36,12 @@ pub enum Outcome {
     Refused(Refusal),
 }
 
+// The cursor, the advances till now, whether it has ended, and the reading that its caller chose.
 pub struct Tokenizer {
     pub at: u64,
     pub count: u64,
     pub done: Outcome,
+    pub reading: Reading,
 }
 
 // An answer, the tokenizer after it, and how deep the comments go in the gap that was read for it.

@@ -4,6 +4,7 @@ ghost use mathlib.Core.Path.{_≡_};
 ghost use Rattle.record.specs.Numbers.{kindNumber, codeNumber, kindOf};
 ghost use Rattle.record.specs.Records.{toldNumber, tokenOf};
 ghost use Rattle.record.specs.Checks.{checks};
+ghost use Rattle.record.specs.Readings.{readingOf};
 ghost use Rattle.record.specs.Rust.{rustNumber};
 
 // The kinds of token, in the order of the Rust's `Tok`.
@@ -86,7 +87,7 @@ pub enum Code {
     UnknownVersion,
     BadLength,
     BadRecord,
-    // 21 to 29 are document 02's; nothing answers those from 24 on yet
+    // 21 to 29 are document 02's; nothing answers those from 25 on yet
     SheetFull,
     HalfSymbol,
     StrayCharacter,
@@ -96,6 +97,18 @@ pub enum Code {
     ChangeListFull,
     BadEdit,
     StaleRecords,
+}
+
+// How a text is read: 01's reading, or the one that keeps the letter after an attribute (document 02, E5).
+pub enum Reading {
+    Old,
+    Kept,
+}
+
+// The reading that has a number, if there is one.
+pub enum Chosen {
+    Reading(Reading),
+    Nothing,
 }
 
 pub struct Refusal {
@@ -310,6 +323,19 @@ pub fn kind_of(n: u8) -> Known
     let i = n as usize;
     let k = KINDS[i];
     Known::Kind(k)
+}
+
+// The reading of a number.
+pub fn reading_of(n: u64) -> Chosen
+    ensures { λ r. ⌜ r ≡ readingOf n ⌝ }
+{
+    if n == 0 {
+        return Chosen::Reading(Reading::Old);
+    }
+    if n == 1 {
+        return Chosen::Reading(Reading::Kept);
+    }
+    Chosen::Nothing
 }
 
 // The number for what is told: the highest of all where it is not known.

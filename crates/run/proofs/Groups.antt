@@ -156,7 +156,7 @@ module _ (g : Group) (s : List ℕ) (shift limit room : ℕ) (t₀ : Tokenizer) 
     stored = rw q (pend-goes s shift limit room n t .0)
 
     pub asking-turn : p .going ≡ true → (ys′ : List ℕ) → ys′ ≡ sets ys (sizeOf g * n) (groupOf g (p .token))
-        → Asking g s shift limit room t₀ xs (n + 1) (running (p .ran .state .at) (p .ran .state .count)) ys′
+        → Asking g s shift limit room t₀ xs (n + 1) (running (p .ran .state .reading) (p .ran .state .at) (p .ran .state .count)) ys′
     unfolding advanceOf
     asking-turn v ys′ f =
         let d : p .ran .state .done ≡ Running = rw q (pend-runs s shift limit room n t (rw q at v)) in

@@ -1,4 +1,4 @@
--- The checks before any reading, for the public single call and for a whole run, over any call; 01's is `next`.
+-- The checks before any reading, for the public single call and for a whole run, over any call; ours is `next`, in the reading of the tokenizer.
 use Prim.Native.Nat.{ℕ}
 use mathlib.Core.Bool.{cond}
 use mathlib.Core.List.{List}
@@ -9,6 +9,7 @@ use Rattle.record.specs.Records.{refusal}
 use Rattle.record.specs.declared.Checked.{Checked}
 use Rattle.record.specs.declared.Checked.the-variants.{Passed, Refused as Stopped}
 use Rattle.record.specs.declared.Code.the-variants.{BadRecord}
+use Rattle.record.specs.declared.Reading.{Reading}
 use Rattle.reading.specs.Next.{next}
 use Rattle.reading.specs.Run.{Run, runWith, stepWith, stopped}
 use Rattle.reading.specs.declared.Call.{Call}
@@ -27,8 +28,8 @@ countIf (Stopped r) n = 0
 abbrev pub report : Checked → Run → Ran
 report c r = record { stored = length (r .tokens); how = r .how; advances = countIf c (r .state .count); state = r .state; «last_depth» = r .last }
 
--- over any call: the characters left, and the place of the first
-module _ (call : List ℕ → ℕ → Call) where
+-- over any call: the reading, the characters left, and the place of the first
+module _ (call : Reading → List ℕ → ℕ → Call) where
   -- 01: "A public single call repeats the checks, then answers 20, nothing changed, for a cursor off its text's boundaries."
   abbrev pub stepIfWith : Checked → List ℕ → ℕ → ℕ → Tokenizer → Stepped
   stepIfWith Passed s shift limit t =
@@ -49,7 +50,7 @@ module _ (call : List ℕ → ℕ → Call) where
   unfoldable pub ranWith : List ℕ → ℕ → ℕ → ℕ → Tokenizer → Ran
   ranWith s shift limit room t = report (checks s shift) (wholeRunWith s shift limit room t)
 
--- 01's reading
+-- with our call
 abbrev pub stepIf : Checked → List ℕ → ℕ → ℕ → Tokenizer → Stepped
 stepIf = stepIfWith next
 

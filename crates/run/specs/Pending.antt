@@ -11,6 +11,7 @@ use Rattle.record.specs.declared.Checked.{Checked}
 use Rattle.record.specs.declared.Checked.the-variants.{Passed, Refused as Stopped}
 use Rattle.record.specs.declared.Code.the-variants.{BadRecord, NoRoom}
 use Rattle.record.specs.declared.Kind.the-variants.{Enum}
+use Rattle.record.specs.declared.Reading.{Reading}
 use Rattle.record.specs.declared.Token.{Token}
 use Rattle.reading.specs.Run.{step}
 use Rattle.reading.specs.declared.Outcome.{Outcome}
@@ -23,11 +24,11 @@ use Rattle.run.specs.Checked.{countIf}
 use Rattle.run.specs.declared.Pending.{Pending}
 
 -- a tokenizer that runs
-abbrev pub running : ℕ → ℕ → Tokenizer
-running at count = record { at = at; count = count; done = Running }
+abbrev pub running : Reading → ℕ → ℕ → Tokenizer
+running rd at count = record { at = at; count = count; done = Running; reading = rd }
 
-pub runs-as : (t : Tokenizer) → t .done ≡ Running → t ≡ running (t .at) (t .count)
-runs-as t d = ap (λ (o : Outcome). record { at = t .at; count = t .count; done = o }) d
+pub runs-as : (t : Tokenizer) → t .done ≡ Running → t ≡ running (t .reading) (t .at) (t .count)
+runs-as t d = ap (λ (o : Outcome). record { at = t .at; count = t .count; done = o; reading = t .reading }) d
 
 abbrev pub noToken : Token
 noToken = tokenOf Enum 0 0 0 0

@@ -49,18 +49,18 @@ roomy-in s shift o p End f l i = tt
 
 module _ (s : List ℕ) (shift limit : ℕ) (t : Tokenizer) (r : Ready s shift t) where
   -- every place of a call's answer takes the shift
-  pub call-roomy : Roomy shift (next (left s (t .at)) (t .at) .what)
+  pub call-roomy : Roomy shift (next (t .reading) (left s (t .at)) (t .at) .what)
   call-roomy =
-      let x = next (left s (t .at)) (t .at) in
-      let w = call-within s (t .at) (r .within) in
-      record { is = roomy-in s shift (t .at) (x .at) (x .what) (r .fits) (w .room) ((next-inside (left s (t .at)) (t .at)) .is) }
+      let x = next (t .reading) (left s (t .at)) (t .at) in
+      let w = call-within (t .reading) s (t .at) (r .within) in
+      record { is = roomy-in s shift (t .at) (x .at) (x .what) (r .fits) (w .room) ((next-inside (t .reading) (left s (t .at)) (t .at)) .is) }
 
-  by-within : stepBy shift limit t (next (left s (t .at)) (t .at)) .next .at ≤ length s
-  by-within = go (ltb limit (t .count + next (left s (t .at)) (t .at) .advances)) refl
+  by-within : stepBy shift limit t (next (t .reading) (left s (t .at)) (t .at)) .next .at ≤ length s
+  by-within = go (ltb limit (t .count + next (t .reading) (left s (t .at)) (t .at) .advances)) refl
     where
-      go : (b : Bool) → ltb limit (t .count + next (left s (t .at)) (t .at) .advances) ≡ b → stepBy shift limit t (next (left s (t .at)) (t .at)) .next .at ≤ length s
+      go : (b : Bool) → ltb limit (t .count + next (t .reading) (left s (t .at)) (t .at) .advances) ≡ b → stepBy shift limit t (next (t .reading) (left s (t .at)) (t .at)) .next .at ≤ length s
       go true q = rw q (r .within)
-      go false q = rw q ((call-within s (t .at) (r .within)) .room)
+      go false q = rw q ((call-within (t .reading) s (t .at) (r .within)) .room)
 
   step-in : (d : Outcome) → stepIn d s shift limit t .next .at ≤ length s
   step-in Running = by-within
@@ -73,7 +73,7 @@ module _ (s : List ℕ) (shift limit : ℕ) (t : Tokenizer) (r : Ready s shift t
   step-ready = record { fits = r .fits; within = step-in (t .done) }
 
 -- a tokenizer that is running reads on
-pub step-running : (s : List ℕ) (shift limit : ℕ) (t : Tokenizer) → t .done ≡ Running → step s shift limit t ≡ stepBy shift limit t (next (left s (t .at)) (t .at))
+pub step-running : (s : List ℕ) (shift limit : ℕ) (t : Tokenizer) → t .done ≡ Running → step s shift limit t ≡ stepBy shift limit t (next (t .reading) (left s (t .at)) (t .at))
 unfolding stepWith
 step-running s shift limit t d = rw d
 
@@ -86,11 +86,11 @@ got-end x e = let w : _≡_ {A = ℕ} 0 1 = cc in absurd (omega arith)
 
 -- a token leaves the tokenizer running
 module _ (s : List ℕ) (shift limit : ℕ) (t : Tokenizer) (y : Token) where
-  by-runs : stepBy shift limit t (next (left s (t .at)) (t .at)) .what ≡ Got y → stepBy shift limit t (next (left s (t .at)) (t .at)) .next .done ≡ Running
-  by-runs = go (ltb limit (t .count + next (left s (t .at)) (t .at) .advances)) refl
+  by-runs : stepBy shift limit t (next (t .reading) (left s (t .at)) (t .at)) .what ≡ Got y → stepBy shift limit t (next (t .reading) (left s (t .at)) (t .at)) .next .done ≡ Running
+  by-runs = go (ltb limit (t .count + next (t .reading) (left s (t .at)) (t .at) .advances)) refl
     where
-      go : (b : Bool) → ltb limit (t .count + next (left s (t .at)) (t .at) .advances) ≡ b
-          → stepBy shift limit t (next (left s (t .at)) (t .at)) .what ≡ Got y → stepBy shift limit t (next (left s (t .at)) (t .at)) .next .done ≡ Running
+      go : (b : Bool) → ltb limit (t .count + next (t .reading) (left s (t .at)) (t .at) .advances) ≡ b
+          → stepBy shift limit t (next (t .reading) (left s (t .at)) (t .at)) .what ≡ Got y → stepBy shift limit t (next (t .reading) (left s (t .at)) (t .at)) .next .done ≡ Running
       go true q e = got-error y _ (rw q at e)
       go false q e = let f = rw q at e in rw q (ap doneBy f)
 

@@ -10,6 +10,7 @@ use lib.ListN.{length}
 use borrow.Author.Tests.{lt-ltb, le-ltb, ltb-false}
 use Rattle.record.specs.Records.{refusal}
 use Rattle.record.specs.declared.Code.the-variants.{NoRoom}
+use Rattle.record.specs.declared.Reading.{Reading}
 use Rattle.record.specs.declared.Refusal.{Refusal}
 use Rattle.record.specs.declared.Token.{Token}
 use Rattle.scan.specs.Far.{short}
@@ -34,7 +35,7 @@ abbrev pub before : List Token → Run → Run
 before ts r = record { tokens = ts ++ r .tokens; how = r .how; state = r .state; last = r .last }
 
 -- ---- a step that goes on, under a higher limit, and one that stops
-module _ (call : List ℕ → ℕ → Call) (s : List ℕ) (shift limit limit′ : ℕ) (h : limit ≤ limit′) (t : Tokenizer) where
+module _ (call : Reading → List ℕ → ℕ → Call) (s : List ℕ) (shift limit limit′ : ℕ) (h : limit ≤ limit′) (t : Tokenizer) where
   by-higher : (x : Call) (y : Token) → stepBy shift limit t x .what ≡ Got y → stepBy shift limit′ t x ≡ stepBy shift limit t x
   by-higher x y e = go (ltb limit (t .count + x .advances)) refl
     where
@@ -43,7 +44,7 @@ module _ (call : List ℕ → ℕ → Call) (s : List ℕ) (shift limit limit′
       go false q = let l = ltb-false limit (t .count + x .advances) q in rw (q, le-ltb limit′ (t .count + x .advances) (omega arith))
 
   in-higher : (d : Outcome) (y : Token) → stepInWith call d s shift limit t .what ≡ Got y → stepInWith call d s shift limit′ t ≡ stepInWith call d s shift limit t
-  in-higher Running y e = by-higher (call (left s (t .at)) (t .at)) y e
+  in-higher Running y e = by-higher (call (t .reading) (left s (t .at)) (t .at)) y e
   in-higher Ended y e = got-end y e
   in-higher (Refused z) y e = got-error y z e
 
@@ -51,7 +52,7 @@ module _ (call : List ℕ → ℕ → Call) (s : List ℕ) (shift limit limit′
   unfolding stepWith
   step-higher y e = in-higher (t .done) y e
 
-module _ (call : List ℕ → ℕ → Call) (s : List ℕ) (shift limit : ℕ) (t : Tokenizer) where
+module _ (call : Reading → List ℕ → ℕ → Call) (s : List ℕ) (shift limit : ℕ) (t : Tokenizer) where
   -- a call that stops a run and leaves the tokenizer running leaves it as it was
   abbrev Stays : Stepped → Type 0
   Stays x = ((y : Token) → x .what ≡ Got y → ⊥) → x .next .done ≡ Running → x .next ≡ t
@@ -72,7 +73,7 @@ module _ (call : List ℕ → ℕ → Call) (s : List ℕ) (shift limit : ℕ) (
           absurd (by-done (x .what) 0 0 0 f′ d′)
 
   in-stays : (d : Outcome) → Stays (stepInWith call d s shift limit t)
-  in-stays Running f e = by-stays (call (left s (t .at)) (t .at)) f e
+  in-stays Running f e = by-stays (call (t .reading) (left s (t .at)) (t .at)) f e
   in-stays Ended f e = refl
   in-stays (Refused z) f e = refl
 
@@ -81,7 +82,7 @@ module _ (call : List ℕ → ℕ → Call) (s : List ℕ) (shift limit : ℕ) (
   step-stays f e = in-stays (t .done) f e
 
 -- ---- more calls than needed change nothing
-module _ (call : List ℕ → ℕ → Call) (s : List ℕ) (shift limit : ℕ) where
+module _ (call : Reading → List ℕ → ℕ → Call) (s : List ℕ) (shift limit : ℕ) where
   enough : (k j room : ℕ) (t : Tokenizer) → (runFromWith call s shift limit k room t .how ≡ Running → ⊥) → runFromWith call s shift limit (k + j) room t ≡ runFromWith call s shift limit k room t
   unfolding runFromWith
   enough zero j room t f = absurd (f refl)
@@ -105,7 +106,7 @@ module _ (call : List ℕ → ℕ → Call) (s : List ℕ) (shift limit : ℕ) w
       go ih End e = turn-end call s shift limit (k + j) room t e ∙ sym (turn-end call s shift limit k room t e)
 
 -- ---- the run with the higher limit and the longer list, along the run that was stopped
-module _ (call : List ℕ → ℕ → Call) (s : List ℕ) (shift limit limit′ : ℕ) (h : limit ≤ limit′) (room′ : ℕ) where
+module _ (call : Reading → List ℕ → ℕ → Call) (s : List ℕ) (shift limit limit′ : ℕ) (h : limit ≤ limit′) (room′ : ℕ) where
   abbrev Along : ℕ → Tokenizer → Run → Type 0
   Along k t r = runFromWith call s shift limit′ k (length (r .tokens) + room′) t ≡ before (r .tokens) (runFromWith call s shift limit′ (k - length (r .tokens)) room′ (r .state))
 
@@ -156,7 +157,7 @@ module _ (call : List ℕ → ℕ → Call) (s : List ℕ) (shift limit limit′
       go ih End w = stay Ended _ (sym e ∙ turn-end call s shift limit k room t w) (λ y g. got-end y (sym w ∙ g))
 
 -- ---- over any call: a run that leaves the tokenizer running is taken up, where the run that was never stopped does not lack calls
-module _ (call : List ℕ → ℕ → Call) (s : List ℕ) (shift limit limit′ room room′ : ℕ) (t : Tokenizer) (h : limit ≤ limit′) where
+module _ (call : Reading → List ℕ → ℕ → Call) (s : List ℕ) (shift limit limit′ room room′ : ℕ) (t : Tokenizer) (h : limit ≤ limit′) where
   pub taken-up-with : runWith call s shift limit room t .state .done ≡ Running
       → (runWith call s shift limit′ (length (runWith call s shift limit room t .tokens) + room′) t .how ≡ Running → ⊥)
       → runWith call s shift limit′ (length (runWith call s shift limit room t .tokens) + room′) t
@@ -178,7 +179,7 @@ module _ (call : List ℕ → ℕ → Call) (s : List ℕ) (shift limit limit′
 module _ (s : List ℕ) (shift limit room : ℕ) (t : Tokenizer) (r : Ready s shift t) where
   never-by : (d : Outcome) → t .done ≡ d → run s shift limit room t .how ≡ Running → ⊥
   unfolding runWith
-  never-by Running d e = runs-out s shift (tell s shift limit (suc (length s)) room t d) (let n = short s (t .at) (r .within) in omega arith) e
+  never-by Running d e = runs-out (t .reading) s shift (tell s shift limit (suc (length s)) room t d) (let n = short s (t .at) (r .within) in omega arith) e
   never-by Ended d e =
       let q : Ended ≡ Running = sym (ap (λ (x : Run). x .how) (again-end s shift limit room t d)) ∙ e in
       let z : _≡_ {A = ℕ} 0 1 = cc in

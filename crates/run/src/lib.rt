@@ -6,6 +6,7 @@ use reading::What;
 use record::Checked;
 use record::Code;
 use record::Kind;
+use record::Reading;
 use record::Refusal;
 use record::Token;
 ghost use mathlib.Core.Path.{_≡_};
@@ -117,11 +118,12 @@ fn done_by(w: What) -> Outcome
 // One call of a tokenizer that is running.
 fn read_on(text: &[u8], shift: u64, limit: u64, t: Tokenizer) -> Stepped
     requires { ⌜ Ready (now text) shift t ⌝ }
-    ensures { λ r. ⌜ r ≡ stepBy shift limit t (next (chars (drop (t .at) (now (text .entry)))) (t .at)) ⌝ }
+    ensures { λ r. ⌜ r ≡ stepBy shift limit t (next (t .reading) (chars (drop (t .at) (now (text .entry)))) (t .at)) ⌝ }
 {
     let at = t.at;
     let count = t.count;
-    let x = tok::next::next_unshifted(text, at as usize);
+    let rd = t.reading;
+    let x = tok::next::next_unshifted(text, rd, at as usize);
     let to = x.at;
     let advances = x.advances;
     if exceeds(limit, count, advances) {
@@ -142,6 +144,7 @@ fn read_on(text: &[u8], shift: u64, limit: u64, t: Tokenizer) -> Stepped
             at: to,
             count: count + advances,
             done: done_by(shifted),
+            reading: rd,
         },
         gap_depth: x.gap_depth,
     }
@@ -367,7 +370,7 @@ pub fn payload<'a>(text: &'a [u8], shift: u64, t: Token) -> &'a [u8]
 }
 
 // How many numbers a group has.
-fn group_size(g: Group) -> usize
+pub fn group_size(g: Group) -> usize
     ensures { λ r. ⌜ (r ≡ sizeOf g) × (0 < r) × (r ≤ 9) ⌝ }
 {
     match g {
@@ -417,9 +420,9 @@ fn put_group(records: &mut [u64], p: usize, g: Group, t: Token)
 }
 
 // The next call would go above the work limit: the tokenizer is as before it.
-fn over_limit(n: usize, shift: u64, at: u64, count: u64) -> Ran
+fn over_limit(rd: Reading, n: usize, shift: u64, at: u64, count: u64) -> Ran
     requires { ⌜ at + shift < 0x10000000000000000 ⌝ }
-    ensures { λ r. ⌜ r ≡ halted n (Refused (refusal WorkLimit (at + shift))) count (running at count) .ran ⌝ }
+    ensures { λ r. ⌜ r ≡ halted n (Refused (refusal WorkLimit (at + shift))) count (running rd at count) .ran ⌝ }
 {
     let how = Outcome::Refused(Refusal {
         code: Code::WorkLimit,
@@ -429,15 +432,16 @@ fn over_limit(n: usize, shift: u64, at: u64, count: u64) -> Ran
         at,
         count,
         done: Outcome::Running,
+        reading: rd,
     };
     let p = halted(n, how, count, t);
     p.ran
 }
 
 // There is no room for the token from `start` on: the tokenizer is as before it.
-fn full(n: usize, shift: u64, start: u64, at: u64, count: u64) -> Ran
+fn full(rd: Reading, n: usize, shift: u64, start: u64, at: u64, count: u64) -> Ran
     requires { ⌜ start + shift < 0x10000000000000000 ⌝ }
-    ensures { λ r. ⌜ r ≡ halted n (Refused (refusal NoRoom (start + shift))) count (running at count) .ran ⌝ }
+    ensures { λ r. ⌜ r ≡ halted n (Refused (refusal NoRoom (start + shift))) count (running rd at count) .ran ⌝ }
 {
     let how = Outcome::Refused(Refusal {
         code: Code::NoRoom,
@@ -447,15 +451,16 @@ fn full(n: usize, shift: u64, start: u64, at: u64, count: u64) -> Ran
         at,
         count,
         done: Outcome::Running,
+        reading: rd,
     };
     let p = halted(n, how, count, t);
     p.ran
 }
 
 // The call answers an error: the tokenizer keeps it.
-fn lost(n: usize, shift: u64, e: Refusal, at: u64, count: u64) -> Ran
+fn lost(rd: Reading, n: usize, shift: u64, e: Refusal, at: u64, count: u64) -> Ran
     requires { ⌜ e .place + shift < 0x10000000000000000 ⌝ }
-    ensures { λ r. ⌜ r ≡ halted n (Refused (refusal (e .code) (e .place + shift))) count (record { at = at; count = count; done = Refused (refusal (e .code) (e .place + shift)) }) .ran ⌝ }
+    ensures { λ r. ⌜ r ≡ halted n (Refused (refusal (e .code) (e .place + shift))) count (record { at = at; count = count; done = Refused (refusal (e .code) (e .place + shift)); reading = rd }) .ran ⌝ }
 {
     let code = e.code;
     let how = Outcome::Refused(Refusal {
@@ -466,19 +471,21 @@ fn lost(n: usize, shift: u64, e: Refusal, at: u64, count: u64) -> Ran
         at,
         count,
         done: how,
+        reading: rd,
     };
     let p = halted(n, how, count, t);
     p.ran
 }
 
 // The call answers the end, after a gap whose comments go g deep.
-fn at_end(n: usize, at: u64, count: u64, g: u64) -> Ran
-    ensures { λ r. ⌜ r ≡ ended n (record { at = at; count = count; done = Ended }) g .ran ⌝ }
+fn at_end(rd: Reading, n: usize, at: u64, count: u64, g: u64) -> Ran
+    ensures { λ r. ⌜ r ≡ ended n (record { at = at; count = count; done = Ended; reading = rd }) g .ran ⌝ }
 {
     let t = Tokenizer {
         at,
         count,
         done: Outcome::Ended,
+        reading: rd,
     };
     let p = ended(n, t, g);
     p.ran
@@ -486,18 +493,19 @@ fn at_end(n: usize, at: u64, count: u64, g: u64) -> Ran
 
 // The run itself, for a text and a running tokenizer that passed the checks. Here alone the next token is asked for and stored, in one loop.
 // A token is stored straight from the call that answers it: a Pending for each would copy the whole token several times.
-// The tokenizer is two numbers there: as a whole, its `done` would be copied and asked again for each token.
+// The tokenizer is its reading and two numbers there: as a whole, its `done` would be copied and asked again for each token.
 fn store_on(
     text: &[u8],
     shift: u64,
     limit: u64,
     records: &mut [u64],
     g: Group,
+    rd: Reading,
     from: u64,
     counted: u64,
 ) -> Ran
     requires { ⌜ (checks (now text) shift ≡ Passed) × (boundary (now text) from ≡ true) ⌝ }
-    ensures { λ r. ⌜ (r ≡ ranOf (now (text .entry)) shift limit (length (now (records .entry)) / sizeOf g) (running from counted)) × (now (records .exit) ≡ over (groups g (wholeRun (now (text .entry)) shift limit (length (now (records .entry)) / sizeOf g) (running from counted) .tokens)) (now (records .entry))) ⌝ }
+    ensures { λ r. ⌜ (r ≡ ranOf (now (text .entry)) shift limit (length (now (records .entry)) / sizeOf g) (running rd from counted)) × (now (records .exit) ≡ over (groups g (wholeRun (now (text .entry)) shift limit (length (now (records .entry)) / sizeOf g) (running rd from counted) .tokens)) (now (records .entry))) ⌝ }
 {
     let size = group_size(g);
     let room = records.len() / size;
@@ -505,10 +513,10 @@ fn store_on(
     let mut at = from;
     let mut count = counted;
     loop {
-        let x = tok::next::next_unshifted(text, at as usize);
+        let x = tok::next::next_unshifted(text, rd, at as usize);
         let more = x.advances;
         if exceeds(limit, count, more) {
-            return over_limit(n, shift, at, count);
+            return over_limit(rd, n, shift, at, count);
         }
         let to = x.at;
         let total = count + more;
@@ -516,7 +524,7 @@ fn store_on(
         match what {
             What::Got(token) => {
                 if room <= n {
-                    return full(n, shift, token.start, at, count);
+                    return full(rd, n, shift, token.start, at, count);
                 }
                 put_group(records, size * n, g, shift_token(shift, token));
                 n += 1;
@@ -524,10 +532,10 @@ fn store_on(
                 count = total;
             }
             What::Error(r) => {
-                return lost(n, shift, r, to, total);
+                return lost(rd, n, shift, r, to, total);
             }
             What::End => {
-                return at_end(n, to, total, x.gap_depth);
+                return at_end(rd, n, to, total, x.gap_depth);
             }
         }
     }
@@ -548,7 +556,10 @@ fn store_all(
     let count = from.count;
     let done = from.done;
     match done {
-        Outcome::Running => store_on(text, shift, limit, records, g, from.at, count),
+        Outcome::Running => {
+            let rd = from.reading;
+            store_on(text, shift, limit, records, g, rd, from.at, count)
+        }
         Outcome::Ended => {
             let p = halted(0, Outcome::Ended, count, from);
             p.ran

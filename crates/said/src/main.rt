@@ -1,6 +1,7 @@
 // What the commands say of odd texts and files, for both outputs: the stored run holds it, since rt compares standard output alone.
 use commands::Said;
 use libc::STDOUT_FILENO;
+use record::Reading;
 use run::Group;
 use text::Came;
 ghost use mathlib.Core.Path.{_≡_};
@@ -49,19 +50,23 @@ fn long_file() -> [u8; 294922]
     [0; 294922]
 }
 
-fn list_by(group: Group, headed: bool, name: &[u8], text: &[u8]) {
+fn list_by(rd: Reading, group: Group, headed: bool, name: &[u8], text: &[u8]) {
     let mut out = [0u8; 512];
     let mut err = [0u8; 128];
-    let said = commands::list(0, group, headed, name, text, &mut out, &mut err);
+    let said = commands::list(0, rd, group, headed, name, text, &mut out, &mut err);
     both(said, &out, &err);
 }
 
 fn list(headed: bool, name: &[u8], text: &[u8]) {
-    list_by(Group::Five, headed, name, text);
+    list_by(Reading::Old, Group::Five, headed, name, text);
 }
 
 fn list_depths(headed: bool, name: &[u8], text: &[u8]) {
-    list_by(Group::Nine, headed, name, text);
+    list_by(Reading::Old, Group::Nine, headed, name, text);
+}
+
+fn list_kept(headed: bool, name: &[u8], text: &[u8]) {
+    list_by(Reading::Kept, Group::Five, headed, name, text);
 }
 
 fn pack(name: &[u8], text: &[u8]) {
@@ -145,10 +150,18 @@ fn depths() {
     list_depths(false, b"32,769", &more);
 }
 
+// `list --kept`: the letter after an attribute stands in its word; in code a quote may end the text, and a regex literal needs its number of hashes.
+fn kept() {
+    list_kept(false, b"letter", b"#![a]xb=>c;");
+    list_kept(false, b"quote", b"=>'a'");
+    list_kept(false, b"hashes", b"=>r#\"a\"b\"#;");
+}
+
 fn main() {
     lists();
     columns();
     packs();
     unpacks();
     depths();
+    kept();
 }

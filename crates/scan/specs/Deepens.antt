@@ -116,7 +116,6 @@ module _ (s : List ℕ) (at to : ℕ) where
   com-run Complete e = stays Complete e
 
 -- a character that is no slash starts nothing
-
 pub cover-none : (c : ℕ) (cs : List ℕ) → (c ≡ '/ → ⊥) → coverDepth c cs ≡ 0
 cover-none c cs n = rw (ne-eqb c '/ n)
 

@@ -11,6 +11,7 @@ use Rattle.record.specs.Numbers.{codeNumber, kindNumber}
 use Rattle.record.specs.declared.Told.{Told}
 use Rattle.record.specs.declared.Told.the-variants.{Is, Unknown}
 use Rattle.record.specs.declared.Token.{Token}
+use Rattle.record.specs.declared.Reading.the-variants.{Old}
 use Rattle.scan.specs.Depth.{deeper}
 use Rattle.scan.specs.Far.{after}
 use Rattle.scan.specs.Until.{left}
@@ -82,9 +83,9 @@ unfoldable pub fails : List ℕ → ℕ → ℕ
 fails [] o = 0
 fails (c ∷ cs) o = cond (eqb c '#) (failing (attempt cs (o + widthOf c))) 0
 
--- what is dropped after the token t: one character after an attribute, if there is one; and the place after it
+-- what is dropped after the token t, in the old reading, which is a sheet's: one character after an attribute, if there is one; and the place after it
 abbrev pub drops : List ℕ → Token → ℕ
-drops s t = tailOf (t .kind) (left s (t .end))
+drops s t = tailOf Old (t .kind) (left s (t .end))
 
 unfoldable pub beyond : List ℕ → Token → ℕ
 beyond s t = after (drops s t) (left s (t .end)) (t .end)

@@ -18,6 +18,7 @@ use Rattle.record.specs.Records.{refusal}
 use Rattle.record.specs.declared.Checked.the-variants.{Passed}
 use Rattle.record.specs.declared.Code.{Code}
 use Rattle.record.specs.declared.Code.the-variants.{WorkLimit}
+use Rattle.record.specs.declared.Reading.the-variants.{Old}
 use Rattle.record.specs.declared.Refusal.{Refusal}
 use Rattle.record.specs.declared.Token.{Token}
 use Rattle.scan.specs.Deepens.{least}
@@ -71,26 +72,26 @@ shift-refusal r = let a : r .place + 0 ≡ r .place = omega arith in rw a
 -- ---- the four answers of a call
 module _ (s : List ℕ) (at count : ℕ) where
   abbrev pub reads : Call
-  reads = next (left s at) at
+  reads = next Old (left s at) at
 
-  call-is : callOf s at count ≡ stepBy 0 workLimit (running at count) reads
+  call-is : callOf s at count ≡ stepBy 0 workLimit (running Old at count) reads
   unfolding callOf stepWith
   call-is = refl
 
   -- the call would take the advances above the limit
-  pub call-limit : ltb workLimit (count + reads .advances) ≡ true → callOf s at count ≡ record { what = Error (refusal WorkLimit at); next = running at count; «gap_depth» = 0 }
+  pub call-limit : ltb workLimit (count + reads .advances) ≡ true → callOf s at count ≡ record { what = Error (refusal WorkLimit at); next = running Old at count; «gap_depth» = 0 }
   call-limit q = let a : at + 0 ≡ at = omega arith in call-is ∙ rw (q, a)
 
   module _ (q : ltb workLimit (count + reads .advances) ≡ false) where
-    pub call-got : (t : Token) → reads .what ≡ Got t → callOf s at count ≡ record { what = Got t; next = running (reads .at) (count + reads .advances); «gap_depth» = reads .«gap_depth» }
+    pub call-got : (t : Token) → reads .what ≡ Got t → callOf s at count ≡ record { what = Got t; next = running Old (reads .at) (count + reads .advances); «gap_depth» = reads .«gap_depth» }
     call-got t e = call-is ∙ rw (q, e, shift-token t)
 
     pub call-error : (r : Refusal) → reads .what ≡ Error r
-        → callOf s at count ≡ record { what = Error r; next = record { at = reads .at; count = count + reads .advances; done = Refused r }; «gap_depth» = reads .«gap_depth» }
+        → callOf s at count ≡ record { what = Error r; next = record { at = reads .at; count = count + reads .advances; done = Refused r; reading = Old }; «gap_depth» = reads .«gap_depth» }
     call-error r e = call-is ∙ rw (q, e, shift-refusal r)
 
     pub call-end : reads .what ≡ End
-        → callOf s at count ≡ record { what = End; next = record { at = reads .at; count = count + reads .advances; done = Ended }; «gap_depth» = reads .«gap_depth» }
+        → callOf s at count ≡ record { what = End; next = record { at = reads .at; count = count + reads .advances; done = Ended; reading = Old }; «gap_depth» = reads .«gap_depth» }
     call-end e = call-is ∙ rw (q, e)
 
     pub read-got : (t : Token) → reads .what ≡ Got t
@@ -119,7 +120,7 @@ module _ (s : List ℕ) (at count : ℕ) where
   pub record Gapped (p w c d : ℕ) : Type 0 where
     pub gap-is : gap (left s at) at ≡ Past p (w + c)
     pub far : Far (left s at) at (w + c) p
-    pub goes-on : reads ≡ told d (more (w + c) (tokenOrEnd (left s p) p))
+    pub goes-on : reads ≡ told d (more (w + c) (tokenOrEnd Old (left s p) p))
     pub white-is : whites (between s at p) ≡ w
     pub comment-is : comments (between s at p) ≡ c
 
@@ -136,7 +137,7 @@ module _ (s : List ℕ) (at count : ℕ) where
           let n : gapDepth (left s at) at ≡ d = cc in
           let k : w + c ≡ m = omega (arith, whites-comments (take m (left s at)), length-take-le m (left s at) (f .within), u, v) in
           let b = up-to-far (left s at) at m p f in
-          record { gap-is = rw (k, ← a) g; far = rw k f; goes-on = rw (k, ← n) (next-gap s at p m (rw (← a) g)); white-is = rw b u; comment-is = rw b v }
+          record { gap-is = rw (k, ← a) g; far = rw k f; goes-on = rw (k, ← n) (next-gap Old s at p m (rw (← a) g)); white-is = rw b u; comment-is = rw b v }
       go (Lost r q m) g z = let k : _≡_ {A = ℕ} 0 1 = cc in absurd (omega arith)
 
   pub gap-entered : (p w c d : ℕ) → Gapped p w c d → (row : List ℕ) → gapEntered (between s at p) row ≡ enter inComments c (enter inWhitespace w row)
@@ -147,7 +148,7 @@ module _ (s : List ℕ) (at count : ℕ) where
   pub last-entered : (p w c d : ℕ) → Gapped p w c d → reads .what ≡ End → (row : List ℕ) → gapEntered (left s at) row ≡ enter inComments c (enter inWhitespace w row)
   unfolding between
   last-entered p w c d h e row =
-      let l : LaidIn (left s at) at (reads .at) (reads .advances) End = rw e at (next-laid (left s at) at .is) in
+      let l : LaidIn Old (left s at) at (reads .at) (reads .advances) End = rw e at (next-laid Old (left s at) at .is) in
       let z : Past p (w + c) ≡ Past (reads .at) (reads .advances) = sym (h .gap-is) ∙ l .0 in
       let k : w + c ≡ reads .advances = cc in
       let b : between s at p ≡ left s at = up-to-far (left s at) at (w + c) p (h .far) ∙ ap (λ (j : ℕ). take j (left s at)) (k ∙ l .1) ∙ take-length (left s at) in
@@ -163,13 +164,13 @@ module _ (s : List ℕ) (at count : ℕ) where
       go (Lost r′ q n) g z =
           let a : r′ ≡ r = cc in
           let b : n ≡ m = cc in
-          let h = next-lost s at q n r′ g in
+          let h = next-lost Old s at q n r′ g in
           (ap (λ (x : Call). x .what) h ∙ ap Error a, ap (λ (x : Call). x .advances) h ∙ b)
 
 -- ---- a token: its characters, and where what is left begins, after what is dropped
-module _ (s : List ℕ) (at : ℕ) (t : Token) (e : next (left s at) at .what ≡ Got t) where
-  pub laid : Placed (left s at) at t (next (left s at) at .at) (next (left s at) at .advances)
-  laid = rw e at (next-laid (left s at) at .is)
+module _ (s : List ℕ) (at : ℕ) (t : Token) (e : next Old (left s at) at .what ≡ Got t) where
+  pub laid : Placed Old (left s at) at t (next Old (left s at) at .at) (next Old (left s at) at .advances)
+  laid = rw e at (next-laid Old (left s at) at .is)
 
   to-start : drop (laid .gapped) (left s at) ≡ left s (t .start)
   to-start = far-left s at (laid .gapped) (t .start) (laid .gap-far)
@@ -180,41 +181,41 @@ module _ (s : List ℕ) (at : ℕ) (t : Token) (e : next (left s at) at .what �
   to-end : drop (laid .width) (drop (laid .gapped) (left s at)) ≡ left s (t .end)
   to-end = ap (drop (laid .width)) to-start ∙ far-left s (t .start) (laid .width) (t .end) span
 
-  tail-is : tailOf (t .kind) (drop (laid .width) (drop (laid .gapped) (left s at))) ≡ drops s t
-  tail-is = ap (tailOf (t .kind)) to-end
+  tail-is : tailOf Old (t .kind) (drop (laid .width) (drop (laid .gapped) (left s at))) ≡ drops s t
+  tail-is = ap (tailOf Old (t .kind)) to-end
 
-  pub beyond-is : beyond s t ≡ next (left s at) at .at
+  pub beyond-is : beyond s t ≡ next Old (left s at) at .at
   unfolding beyond
   beyond-is = sym (rw to-end at (laid .tail .there))
 
   -- the characters of its gap, its own, and what is dropped: with those that are left they are all
-  pub sizes : length (between s at (t .start)) + length (between s (t .start) (t .end)) + drops s t + length (left s (next (left s at) at .at)) ≡ length (left s at)
+  pub sizes : length (between s at (t .start)) + length (between s (t .start) (t .end)) + drops s t + length (left s (next Old (left s at) at .at)) ≡ length (left s at)
   sizes =
       let a = span-length s at (laid .gapped) (t .start) (laid .gap-far) in
       let b = span-length s (t .start) (laid .width) (t .end) span in
-      let l = placed-length s at t (next (left s at) at .at) (next (left s at) at .advances) laid in
+      let l = placed-length Old s at t (next Old (left s at) at .at) (next Old (left s at) at .advances) laid in
       omega (arith, a, b, l, tail-is)
 
   pub some : 0 < length (between s (t .start) (t .end))
   some = omega (arith, laid .some, span-length s (t .start) (laid .width) (t .end) span)
 
   -- the cursor passes as many bytes at least
-  pub moved : at + (length (between s at (t .start)) + length (between s (t .start) (t .end)) + drops s t) ≤ next (left s at) at .at
+  pub moved : at + (length (between s at (t .start)) + length (between s (t .start) (t .end)) + drops s t) ≤ next Old (left s at) at .at
   moved =
       let a = span-length s at (laid .gapped) (t .start) (laid .gap-far) in
       let b = span-length s (t .start) (laid .width) (t .end) span in
-      let n = lands _ s at (next (left s at) at .at) (placed-far (left s at) at t (next (left s at) at .at) (next (left s at) at .advances) laid) in
+      let n = lands _ s at (next Old (left s at) at .at) (placed-far Old (left s at) at t (next Old (left s at) at .at) (next Old (left s at) at .advances) laid) in
       omega (arith, a, b, n .gone, tail-is)
 
 -- ---- WHAT HOLDS BEFORE A CALL: the rest of the run, from here, and what it enters on the row
 pub record Going (s : List ℕ) (at count : ℕ) (row : List ℕ) : Type 0 where
   pub calls : ℕ
   pub room : ℕ
-  pub how-is : runFrom s 0 workLimit calls room (running at count) .how ≡ story s .how
-  pub count-is : runFrom s 0 workLimit calls room (running at count) .state .count ≡ story s .state .count
-  pub row-is : entered s at (runFrom s 0 workLimit calls room (running at count) .tokens) row ≡ entered s 0 (story s .tokens) emptySheet
+  pub how-is : runFrom s 0 workLimit calls room (running Old at count) .how ≡ story s .how
+  pub count-is : runFrom s 0 workLimit calls room (running Old at count) .state .count ≡ story s .state .count
+  pub row-is : entered s at (runFrom s 0 workLimit calls room (running Old at count) .tokens) row ≡ entered s 0 (story s .tokens) emptySheet
   pub deep : ℕ
-  pub deep-is : deeper (depthOver (runFrom s 0 workLimit calls room (running at count) .tokens) deep) (runFrom s 0 workLimit calls room (running at count) .last) ≡ greatest (story s)
+  pub deep-is : deeper (depthOver (runFrom s 0 workLimit calls room (running Old at count) .tokens) deep) (runFrom s 0 workLimit calls room (running Old at count) .last) ≡ greatest (story s)
   pub low : deep ≤ 0x7FFFFFFF
   pub enough : length (left s at) < calls
   pub space : length (left s at) ≤ room
@@ -263,27 +264,27 @@ TalliedIn Ended = Unit {0}
 TalliedIn (Refused z) = isTallied (z .code) ≡ true
 TalliedIn Running = Unit {0}
 
-error-tallied : (cs : List ℕ) (at : ℕ) (r : Refusal) → next cs at .what ≡ Error r → isTallied (r .code) ≡ true
+error-tallied : (cs : List ℕ) (at : ℕ) (r : Refusal) → next Old cs at .what ≡ Error r → isTallied (r .code) ≡ true
 unfolding among
 error-tallied cs at r e =
-    let h = next-says (λ (t : Token). Unit {0}) (λ (c : Code). isTallied c ≡ true) (λ kind o p h. tt) (λ kind o p from to h s. tt) refl refl refl refl refl refl refl refl (λ o p from to. tt) (λ g d t h. h) cs at in
+    let h = next-says Old (λ (t : Token). Unit {0}) (λ (c : Code). isTallied c ≡ true) (λ kind o p h. tt) (λ kind o p from to h s. tt) refl refl refl refl refl refl refl refl (λ o p from to. tt) (λ g d t h. h) cs at in
     let w : SaysIn (λ (t : Token). Unit {0}) (λ (c : Code). isTallied c ≡ true) (Error r) = rw e at (h .is) in
     w
 
 -- ---- a turn
 module _ (s : List ℕ) (at count : ℕ) (row : List ℕ) (g : Going s at count row) where
   abbrev x : Call
-  x = next (left s at) at
+  x = next Old (left s at) at
 
-  step-what : {r : Stepped} → callOf s at count ≡ r → step s 0 workLimit (running at count) .what ≡ r .what
+  step-what : {r : Stepped} → callOf s at count ≡ r → step s 0 workLimit (running Old at count) .what ≡ r .what
   unfolding callOf
   step-what e = ap (λ (z : Stepped). z .what) e
 
-  step-next : {r : Stepped} → callOf s at count ≡ r → step s 0 workLimit (running at count) .next ≡ r .next
+  step-next : {r : Stepped} → callOf s at count ≡ r → step s 0 workLimit (running Old at count) .next ≡ r .next
   unfolding callOf
   step-next e = ap (λ (z : Stepped). z .next) e
 
-  step-deep : {r : Stepped} → callOf s at count ≡ r → step s 0 workLimit (running at count) .«gap_depth» ≡ r .«gap_depth»
+  step-deep : {r : Stepped} → callOf s at count ≡ r → step s 0 workLimit (running Old at count) .«gap_depth» ≡ r .«gap_depth»
   unfolding callOf
   step-deep e = ap (λ (z : Stepped). z .«gap_depth») e
 
@@ -318,9 +319,9 @@ module _ (s : List ℕ) (at count : ℕ) (row : List ℕ) (g : Going s at count 
   over-error : (z : Refusal) (u : Tokenizer) (h : ℕ) → callOf s at count ≡ record { what = Error z; next = u; «gap_depth» = h } → u .count ≤ workLimit → isTallied (z .code) ≡ true
       → Over (Refused z) (u .count) (deeper (g .deep) 0) row
   over-error z u h e m k =
-      let f : runFrom s 0 workLimit (g .calls) (g .room) (running at count) ≡ stopped (Refused z) u =
-      some-call (λ n. runFrom s 0 workLimit n (g .room) (running at count) ≡ stopped (Refused z) u)
-      (λ j _. run-error s 0 workLimit j (g .room) (running at count) z (step-what e) ∙ ap (stopped (Refused z)) (step-next e)) in
+      let f : runFrom s 0 workLimit (g .calls) (g .room) (running Old at count) ≡ stopped (Refused z) u =
+      some-call (λ n. runFrom s 0 workLimit n (g .room) (running Old at count) ≡ stopped (Refused z) u)
+      (λ j _. run-error s 0 workLimit j (g .room) (running Old at count) z (step-what e) ∙ ap (stopped (Refused z)) (step-next e)) in
       record {
         how-over = sym (ap (λ (r : Run). r .how) f) ∙ g .how-is;
         count-over = sym (ap (λ (r : Run). r .state .count) f) ∙ g .count-is;
@@ -337,9 +338,9 @@ module _ (s : List ℕ) (at count : ℕ) (row : List ℕ) (g : Going s at count 
       → Over Ended (u .count) (deeper (g .deep) h) (gapEntered (left s at) row)
   unfolding entered depthOver
   over-end u h e m b =
-      let f : runFrom s 0 workLimit (g .calls) (g .room) (running at count) ≡ ending h u =
-      some-call (λ n. runFrom s 0 workLimit n (g .room) (running at count) ≡ ending h u)
-      (λ k _. run-end s 0 workLimit k (g .room) (running at count) (step-what e) ∙ rw (step-next e, step-deep e)) in
+      let f : runFrom s 0 workLimit (g .calls) (g .room) (running Old at count) ≡ ending h u =
+      some-call (λ n. runFrom s 0 workLimit n (g .room) (running Old at count) ≡ ending h u)
+      (λ k _. run-end s 0 workLimit k (g .room) (running Old at count) (step-what e) ∙ rw (step-next e, step-deep e)) in
       record {
         how-over = sym (ap (λ (r : Run). r .how) f) ∙ g .how-is;
         count-over = sym (ap (λ (r : Run). r .state .count) f) ∙ g .count-is;
@@ -355,7 +356,7 @@ module _ (s : List ℕ) (at count : ℕ) (row : List ℕ) (g : Going s at count 
       }
 
   end-low : x .what ≡ End → x .«gap_depth» ≤ 0x7FFFFFFF
-  end-low e = let k = fits s at in rw (last-told s at e) (omega (arith, gap-small (left s at) at, k, g .small))
+  end-low e = let k = fits s at in rw (last-told Old s at e) (omega (arith, gap-small (left s at) at, k, g .small))
 
   -- a token
   module _ (t : Token) (e : x .what ≡ Got t) where
@@ -378,7 +379,7 @@ module _ (s : List ℕ) (at count : ℕ) (row : List ℕ) (g : Going s at count 
     -- how deep its gap and its code go
     token-low : tokenDepth t ≤ 0x7FFFFFFF
     token-low =
-        let (a, b, p, q) = next-small (left s at) at t e in
+        let (a, b, p, q) = next-small Old (left s at) at t e in
         let k = fits s at in
         rw (p, q) (least (x .«gap_depth») (x .«code_depth») 0x7FFFFFFF (omega (arith, a, k, g .small)) (omega (arith, b, k, g .small)))
 
@@ -390,7 +391,7 @@ module _ (s : List ℕ) (at count : ℕ) (row : List ℕ) (g : Going s at count 
         l : length (between s at (t .start)) + length (between s (t .start) (t .end)) + drops s t + length (left s (x .at)) ≡ length (left s at)
         l = sizes s at t e
 
-        h : callOf s at count ≡ record { what = Got t; next = running (x .at) (count + x .advances); «gap_depth» = x .«gap_depth» }
+        h : callOf s at count ≡ record { what = Got t; next = running Old (x .at) (count + x .advances); «gap_depth» = x .«gap_depth» }
         h = call-got s at count q t e
 
         go : (n : ℕ) → g .calls ≡ n
@@ -400,16 +401,16 @@ module _ (s : List ℕ) (at count : ℕ) (row : List ℕ) (g : Going s at count 
             let m = some s at t e in
             let v = g .space in
             let n = g .enough in
-            let f : runFrom s 0 workLimit (g .calls) (g .room) (running at count) ≡ also t (runFrom s 0 workLimit k (g .room - 1) (running (x .at) (count + x .advances))) =
-            ap (λ (j : ℕ). runFrom s 0 workLimit j (g .room) (running at count)) z
-            ∙ run-got s 0 workLimit k (g .room) (running at count) t (step-what h) (lt-ltb 0 (g .room) (omega (arith, l, m, v)))
+            let f : runFrom s 0 workLimit (g .calls) (g .room) (running Old at count) ≡ also t (runFrom s 0 workLimit k (g .room - 1) (running Old (x .at) (count + x .advances))) =
+            ap (λ (j : ℕ). runFrom s 0 workLimit j (g .room) (running Old at count)) z
+            ∙ run-got s 0 workLimit k (g .room) (running Old at count) t (step-what h) (lt-ltb 0 (g .room) (omega (arith, l, m, v)))
             ∙ ap (λ (u : Tokenizer). also t (runFrom s 0 workLimit k (g .room - 1) u)) (step-next h) in (
               record {
                 calls = k;
                 room = g .room - 1;
                 how-is = sym (ap (λ (r : Run). r .how) f) ∙ g .how-is;
                 count-is = sym (ap (λ (r : Run). r .state .count) f) ∙ g .count-is;
-                row-is = sym (ap (λ (p : ℕ). entered s p (runFrom s 0 workLimit k (g .room - 1) (running (x .at) (count + x .advances)) .tokens) (tokenEntered s t (gapEntered (between s at (t .start)) row))) (beyond-is s at t e))
+                row-is = sym (ap (λ (p : ℕ). entered s p (runFrom s 0 workLimit k (g .room - 1) (running Old (x .at) (count + x .advances)) .tokens) (tokenEntered s t (gapEntered (between s at (t .start)) row))) (beyond-is s at t e))
                     ∙ sym (ap (λ (r : Run). entered s at (r .tokens) row) f)
                     ∙ g .row-is;
                 deep = deeper (g .deep) (tokenDepth t);
@@ -417,7 +418,7 @@ module _ (s : List ℕ) (at count : ℕ) (row : List ℕ) (g : Going s at count 
                 low = least (g .deep) (tokenDepth t) 0x7FFFFFFF (g .low) token-low;
                 enough = omega (arith, l, m, n, z);
                 space = omega (arith, l, m, v);
-                within = call-within s at (g .within) .room;
+                within = call-within Old s at (g .within) .room;
                 small = g .small;
                 spent = ltb-false workLimit (count + x .advances) q;
                 below = token-below;
@@ -455,42 +456,42 @@ module _ (s : List ℕ) (at count : ℕ) (row : List ℕ) (g : Going s at count 
       by false q = what q (x .what) refl
 
 -- ---- a call as the code takes it: its gap, and then the token, the error or the end, y, at p
-module _ (s : List ℕ) (at count : ℕ) (row : List ℕ) (g : Going s at count row) (p w c d : ℕ) (h : Gapped s at count p w c d) (y : Call) (e : y ≡ tokenOrEnd (left s p) p) where
-  whole : next (left s at) at ≡ told d (more (w + c) y)
+module _ (s : List ℕ) (at count : ℕ) (row : List ℕ) (g : Going s at count row) (p w c d : ℕ) (h : Gapped s at count p w c d) (y : Call) (e : y ≡ tokenOrEnd Old (left s p) p) where
+  whole : next Old (left s at) at ≡ told d (more (w + c) y)
   whole = h .goes-on ∙ ap (λ (z : Call). told d (more (w + c) z)) (sym e)
 
-  total-is : count + next (left s at) at .advances ≡ count + (w + c + y .advances)
+  total-is : count + next Old (left s at) at .advances ≡ count + (w + c + y .advances)
   unfolding more told
   total-is = ap (λ (z : Call). count + z .advances) whole
 
   pub after-small : w + c + y .advances ≤ 0xFFFFFFFF
   unfolding more told
   after-small =
-      let a = call-within s at (g .within) .most in
+      let a = call-within Old s at (g .within) .most in
       let b : at + length (left s at) ≤ length s = short s at (g .within) in
-      let d : next (left s at) at .advances ≡ w + c + y .advances = ap (λ (z : Call). z .advances) whole in
+      let d : next Old (left s at) at .advances ≡ w + c + y .advances = ap (λ (z : Call). z .advances) whole in
       omega (arith, a, b, d, g .small)
 
   pub after-limit : workLimit < count + (w + c + y .advances)
       → (record { going = false; at = 0; advances = count; deep = 0; how = Refused (refusal WorkLimit at) } ≡ readOf s at count) × (row ≡ rowOf s at count row)
-  after-limit l = let z = read-limit s at count (lt-ltb workLimit (count + next (left s at) at .advances) (omega (arith, l, total-is))) in (sym (z .0), sym (z .1 row))
+  after-limit l = let z = read-limit s at count (lt-ltb workLimit (count + next Old (left s at) at .advances) (omega (arith, l, total-is))) in (sym (z .0), sym (z .1 row))
 
-  pub delivers : (t : Token) → y .what ≡ Got t → Delivers (tokenOrEnd (left s p) p) t (y .at) (y .advances)
+  pub delivers : (t : Token) → y .what ≡ Got t → Delivers (tokenOrEnd Old (left s p) p) t (y .at) (y .advances)
   delivers t q = record { what-is = ap (λ (z : Call). z .what) (sym e) ∙ q; at-is = ap (λ (z : Call). z .at) (sym e); spent-is = ap (λ (z : Call). z .advances) (sym e) }
 
   module _ (l : count + (w + c + y .advances) ≤ workLimit) where
-    test : ltb workLimit (count + next (left s at) at .advances) ≡ false
-    test = le-ltb workLimit (count + next (left s at) at .advances) (omega (arith, l, total-is))
+    test : ltb workLimit (count + next Old (left s at) at .advances) ≡ false
+    test = le-ltb workLimit (count + next Old (left s at) at .advances) (omega (arith, l, total-is))
 
-    what-is : (x : What) → y .what ≡ x → next (left s at) at .what ≡ toldWhat d (y .«code_depth») x
+    what-is : (x : What) → y .what ≡ x → next Old (left s at) at .what ≡ toldWhat d (y .«code_depth») x
     unfolding more told
     what-is x q = ap (λ (z : Call). z .what) whole ∙ ap (toldWhat d (y .«code_depth»)) q
 
-    at-is : next (left s at) at .at ≡ y .at
+    at-is : next Old (left s at) at .at ≡ y .at
     unfolding more told
     at-is = ap (λ (z : Call). z .at) whole
 
-    deep-is : next (left s at) at .«gap_depth» ≡ d
+    deep-is : next Old (left s at) at .«gap_depth» ≡ d
     unfolding told
     deep-is = ap (λ (z : Call). z .«gap_depth») whole
 
@@ -519,7 +520,7 @@ module _ (s : List ℕ) (at count : ℕ) (row : List ℕ) (g : Going s at count 
 module _ (s : List ℕ) (at count : ℕ) (row : List ℕ) (g : Going s at count row) (r : Refusal) (m : ℕ) (e : apart (left s at) at ≡ Open r m) where
   pub open-small : m ≤ 0xFFFFFFFF
   open-small =
-      let a = call-within s at (g .within) .most in
+      let a = call-within Old s at (g .within) .most in
       let b : at + length (left s at) ≤ length s = short s at (g .within) in
       omega (arith, a, b, opened s at count r m e .1, g .small)
 
@@ -527,7 +528,7 @@ module _ (s : List ℕ) (at count : ℕ) (row : List ℕ) (g : Going s at count 
       × (row ≡ rowOf s at count row)
   open-read = go (ltb workLimit (count + m)) refl
     where
-      o : (next (left s at) at .what ≡ Error r) × (next (left s at) at .advances ≡ m)
+      o : (next Old (left s at) at .what ≡ Error r) × (next Old (left s at) at .advances ≡ m)
       o = opened s at count r m e
 
       go : (b : Bool) → ltb workLimit (count + m) ≡ b

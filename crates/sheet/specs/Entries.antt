@@ -9,6 +9,7 @@ use lib.ListN.{getD, length}
 use borrow.Author.Tests.{eqb-true, ne-eqb}
 use Rattle.record.specs.Numbers.{kindNumber}
 use Rattle.record.specs.declared.Kind.{Kind}
+use Rattle.record.specs.declared.Reading.the-variants.{Old}
 use Rattle.record.specs.declared.Token.{Token}
 use Rattle.scan.specs.Until.{left}
 use Rattle.reading.specs.Next.{next}
@@ -109,7 +110,7 @@ token-four s t l h =
     omega (arith, a, b, c, d)
 
 -- of the tokens of calls, one after the other: all the characters that are left
-pub entered-four : (s : List ℕ) (ts : List Token) (at : ℕ) (l : List ℕ) → length l ≡ sheetSize → Called s 0 at ts → four (entered s at ts l) ≡ four l + length (left s at)
+pub entered-four : (s : List ℕ) (ts : List Token) (at : ℕ) (l : List ℕ) → length l ≡ sheetSize → Called Old s 0 at ts → four (entered s at ts l) ≡ four l + length (left s at)
 unfolding entered
 entered-four s [] at l h c = gap-four (left s at) l h
 entered-four s (x ∷ ts) at l h c =
@@ -120,6 +121,6 @@ entered-four s (x ∷ ts) at l h c =
     let z = sizes s at t (c .0 .got) in
     let a = gap-four xs l h in
     let b = token-four s t (gapEntered xs l) k in
-    let i : four (entered s (beyond s t) ts (tokenEntered s t (gapEntered xs l))) ≡ four (tokenEntered s t (gapEntered xs l)) + length (left s (next (left s at) at .at)) =
-    rw (beyond-is s at t (c .0 .got)) (entered-four s ts (next (left s at) at .at) (tokenEntered s t (gapEntered xs l)) (token-length s t (gapEntered xs l) ∙ k) (c .1)) in
+    let i : four (entered s (beyond s t) ts (tokenEntered s t (gapEntered xs l))) ≡ four (tokenEntered s t (gapEntered xs l)) + length (left s (next Old (left s at) at .at)) =
+    rw (beyond-is s at t (c .0 .got)) (entered-four s ts (next Old (left s at) at .at) (tokenEntered s t (gapEntered xs l)) (token-length s t (gapEntered xs l) ∙ k) (c .1)) in
     rw q (omega (arith, z, a, b, i))

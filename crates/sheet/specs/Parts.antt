@@ -11,6 +11,7 @@ use Rattle.utf8.specs.Utf8.{widthOf}
 use Rattle.record.specs.Numbers.{kindNumber}
 use Rattle.record.specs.Records.{tokenOf}
 use Rattle.record.specs.declared.Kind.the-variants.{Hash, ShebangAttribute}
+use Rattle.record.specs.declared.Reading.the-variants.{Old}
 use Rattle.record.specs.declared.Token.{Token}
 use Rattle.scan.specs.Far.{Far, after, far-left, far-one, one-far}
 use Rattle.scan.specs.IfNext.{ifNext}
@@ -67,7 +68,7 @@ module _ (s : List ℕ) (o : ℕ) (t : Token) (to n : ℕ) where
 
   -- an attribute, before the characters ds: one of them is dropped, if there is one
   attribute-part : (m p : ℕ) (ds : List ℕ) → Far (left s o) o (suc m) p → left s p ≡ ds → fails (left s o) o ≡ 0
-      → Delivers (more 1 (more m (attributeToken o ds p))) t to n → partOf s t ≡ sharpPart (kindNumber (t .kind)) (t .end) to n
+      → Delivers (more 1 (more m (attributeToken Old o ds p))) t to n → partOf s t ≡ sharpPart (kindNumber (t .kind)) (t .end) to n
   unfolding partOf more attributeToken dropped after
   attribute-part m p [] f l h z =
       let y : Got (tokenOf ShebangAttribute o p o p) ≡ Got t = z .what-is in
@@ -98,7 +99,7 @@ module _ (s : List ℕ) (o : ℕ) (t : Token) (to n : ℕ) where
       rw (a, w, h)
 
   sharp-part : (c : ℕ) (cs : List ℕ) → left s o ≡ c ∷ cs → eqb c 35 ≡ true → (x : Attempt) → attempt cs (o + widthOf c) ≡ x → Tried cs (o + widthOf c) x
-      → Delivers (more 1 (hashBy o cs (o + widthOf c) x)) t to n → partOf s t ≡ sharpPart (kindNumber (t .kind)) (t .end) to n
+      → Delivers (more 1 (hashBy Old o cs (o + widthOf c) x)) t to n → partOf s t ≡ sharpPart (kindNumber (t .kind)) (t .end) to n
   unfolding fails
   sharp-part c cs e q (Closed p m) y h z =
       let f : Far (left s o) o (suc m) p = rw e (far-one c cs o m p (h .is)) in
@@ -107,26 +108,26 @@ module _ (s : List ℕ) (o : ℕ) (t : Token) (to n : ℕ) where
   sharp-part c cs e q (Failed p m) y h z = hash-part c cs m e (rw (e, q, y)) z
 
   -- of every token
-  pub part-is : Delivers (tokenOrEnd (left s o) o) t to n → partOf s t ≡ partBy (ifNext 35 (left s o) true false) (kindNumber (t .kind)) (t .end) to n
+  pub part-is : Delivers (tokenOrEnd Old (left s o) o) t to n → partOf s t ≡ partBy (ifNext 35 (left s o) true false) (kindNumber (t .kind)) (t .end) to n
   unfolding tokenOrEnd token ifNext hash
   part-is z = go (left s o) refl z
     where
       by : (c : ℕ) (cs : List ℕ) → left s o ≡ c ∷ cs → (b : Bool) → eqb c 35 ≡ b
-          → Delivers (cond b (more 1 (hash o cs (o + widthOf c))) (single singles c o (o + widthOf c) (starts c cs o (o + widthOf c)))) t to n
+          → Delivers (cond b (more 1 (hash Old o cs (o + widthOf c))) (single singles c o (o + widthOf c) (starts Old c cs o (o + widthOf c)))) t to n
           → partOf s t ≡ partBy (cond b true false) (kindNumber (t .kind)) (t .end) to n
       by c cs e true q z = sharp-part c cs e q (attempt cs (o + widthOf c)) refl (attempt-tried cs (o + widthOf c)) z
-      by c cs e false q z = plain-part c cs e q _ (plain-taken c cs o) z
+      by c cs e false q z = plain-part c cs e q _ (plain-taken Old c cs o) z
 
-      go : (l : List ℕ) → left s o ≡ l → Delivers (tokenOrEnd l o) t to n
+      go : (l : List ℕ) → left s o ≡ l → Delivers (tokenOrEnd Old l o) t to n
           → partOf s t ≡ partBy (ifNext 35 l true false) (kindNumber (t .kind)) (t .end) to n
       go [] e z = let y : End ≡ Got t = z .what-is in let w : _≡_ {A = ℕ} 0 1 = cc in absurd (omega arith)
       go (c ∷ cs) e z = by c cs e (eqb c 35) refl z
 
   -- it passes a character
-  pub token-moves : Delivers (tokenOrEnd (left s o) o) t to n → 0 < n
+  pub token-moves : Delivers (tokenOrEnd Old (left s o) o) t to n → 0 < n
   token-moves z =
-      let h = token-or-end-stands (left s o) o in
-      let g = subst (λ (x : Call). Stands (left s o) o x) (delivered _ t to n z) h in
+      let h = token-or-end-stands Old (left s o) o in
+      let g = subst (λ (x : Call). Stands Old (left s o) o x) (delivered _ t to n z) h in
       omega (arith, g .is .some, g .is .spent)
 
   -- what it adds is no more than its call passes
@@ -142,12 +143,12 @@ module _ (s : List ℕ) (o : ℕ) (t : Token) (to n : ℕ) where
       go false true = (omega arith, omega arith, omega arith)
       go false false = (omega arith, omega arith, omega arith)
 
-  pub part-small : Delivers (tokenOrEnd (left s o) o) t to n → Small (partOf s t)
+  pub part-small : Delivers (tokenOrEnd Old (left s o) o) t to n → Small (partOf s t)
   part-small z = rw (part-is z) (by-small (ifNext 35 (left s o) true false) (kindNumber (t .kind)) (token-moves z))
 
   -- and starts there
-  pub token-start : Delivers (tokenOrEnd (left s o) o) t to n → t .start ≡ o
+  pub token-start : Delivers (tokenOrEnd Old (left s o) o) t to n → t .start ≡ o
   token-start z =
-      let h = token-or-end-stands (left s o) o in
-      let g = subst (λ (x : Call). Stands (left s o) o x) (delivered _ t to n z) h in
+      let h = token-or-end-stands Old (left s o) o in
+      let g = subst (λ (x : Call). Stands Old (left s o) o x) (delivered _ t to n z) h in
       g .is .start

@@ -4,6 +4,7 @@ use mathlib.Core.Bool.{false, true}
 use mathlib.Core.List.{List}
 use lib.ListN.{length}
 use Rattle.record.specs.declared.Token.{Token}
+use Rattle.record.specs.declared.Reading.the-variants.{Old}
 use Rattle.scan.specs.Until.{left}
 use Rattle.reading.specs.Run.{step}
 use Rattle.reading.specs.declared.Outcome.the-variants.{Ended, Refused, Running}
@@ -22,7 +23,7 @@ partOf s t = record { width = length (between s (t .start) (t .end)); dropped = 
 
 -- the call at a place, after so many advances
 unfoldable pub callOf : List ℕ → ℕ → ℕ → Stepped
-callOf s at count = step s 0 workLimit (running at count)
+callOf s at count = step s 0 workLimit (running Old at count)
 
 -- where it leads, or how the text ends, and how deep the comments go that it read; those of an error are not told
 abbrev pub readBy : What → Tokenizer → ℕ → Read

@@ -14,6 +14,7 @@ use Rattle.record.specs.Records.{refusal}
 use Rattle.record.specs.declared.Checked.the-variants.{Passed, Refused as Stopped}
 use Rattle.record.specs.declared.Code.{Code}
 use Rattle.record.specs.declared.Code.the-variants.{BadRecord, NoRoom, SheetFull}
+use Rattle.record.specs.declared.Reading.the-variants.{Old}
 use Rattle.record.specs.declared.Refusal.{Refusal}
 use Rattle.scan.specs.Depth.{deeper}
 use Rattle.reading.specs.declared.Outcome.{Outcome}
@@ -80,7 +81,7 @@ module _ (sheet : List ℕ) (k : sheetSize ≤ length sheet) (t : getD sheet tex
 -- no run goes on
 pub never-running : (s : List ℕ) → story s .how ≡ Running → ⊥
 unfolding story
-never-running s e = over-law s 0 workLimit (length s) e
+never-running s e = over-law Old s 0 workLimit (length s) e
 
 -- ---- the order of the refusals
 module _ (s sheet : List ℕ) where

@@ -17,6 +17,7 @@ use Rattle.record.specs.declared.Checked.{Checked}
 use Rattle.record.specs.declared.Checked.the-variants.{Passed, Refused as Stopped}
 use Rattle.record.specs.declared.Code.{Code}
 use Rattle.record.specs.declared.Code.the-variants.{BadRecord, SheetFull}
+use Rattle.record.specs.declared.Reading.the-variants.{Old}
 use Rattle.record.specs.declared.Refusal.{Refusal}
 use Rattle.scan.specs.Deepens.{deeper-none, deeper-of-none, deeper-three, deeper-turned, least}
 use Rattle.scan.specs.Depth.{deeper}
@@ -132,7 +133,7 @@ module _ (s : List ℕ) where
 
   count : story s .how ≡ Ended → story s .state .count ≡ length (chars s) + attempts s 0 (story s .tokens)
   unfolding story
-  count e = let p = ends-passed e in rw p at (end-law s 0 workLimit (length s) e .1)
+  count e = let p = ends-passed e in rw p at (end-law Old s 0 workLimit (length s) e .1)
 
   advances-at : story s .how ≡ Ended → addsTo advancesIn s ≡ story s .state .count
   unfolding counted

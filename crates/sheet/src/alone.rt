@@ -5,6 +5,7 @@ use crate::Read;
 use reading::Outcome;
 use reading::What;
 use record::Code;
+use record::Reading;
 use record::Refusal;
 use record::Token;
 use utf8::signs;
@@ -17,6 +18,7 @@ ghost use Rattle.record.specs.Checks.{checks};
 ghost use Rattle.record.specs.Records.{refusal};
 ghost use Rattle.record.specs.declared.Checked.the-variants.{Passed};
 ghost use Rattle.record.specs.declared.Code.the-variants.{WorkLimit};
+ghost use Rattle.record.specs.declared.Reading.the-variants.{Old};
 ghost use Rattle.scan.specs.Depth.{deeper};
 ghost use Rattle.scan.specs.Until.{left};
 ghost use Rattle.reading.specs.Next.{tokenOrEnd};
@@ -99,7 +101,7 @@ fn sharp(k: u8, end: u64, to: u64, n: u64) -> Part
 
 // What the token t at p adds, whose call went on to a place after n advances.
 fn part(text: &[u8], p: usize, t: Token, to: u64, n: u64) -> Part
-    requires { ⌜ Delivers (tokenOrEnd (left (now text) p) p) t to n ⌝ }
+    requires { ⌜ Delivers (tokenOrEnd Old (left (now text) p) p) t to n ⌝ }
     ensures { λ r. ⌜ r ≡ partOf (now (text .entry)) t ⌝ }
 {
     if scan::is_next(text, p, signs::HASH) {
@@ -177,7 +179,7 @@ fn after_gap(
     requires { ⌜ Going (now text) at count (now row) × Gapped (now text) at count p white comment deep ⌝ }
     ensures { λ r. ⌜ (r ≡ readOf (now (text .entry)) at count) × (now (row .exit) ≡ rowOf (now (text .entry)) at count (now (row .entry))) ⌝ }
 {
-    let x = tok::next::token_or_end(text, p);
+    let x = tok::next::token_or_end(text, Reading::Old, p);
     let n = x.advances;
     let to = x.at;
     let total = count + (white + comment + n);

@@ -1,13 +1,15 @@
--- Depths of a few comments and gaps, computed: by the marks alone, and by the reader.
+-- The request's texts and one more, computed: by the characters alone, and by the reader.
 use Prim.Native.Nat.{ℕ}
 use mathlib.Core.List.{List, [], _∷_}
 use mathlib.Core.Path.{_≡_, refl}
 use Rattle.utf8.specs.Chars.{'*, '/, 'newline}
 use Rattle.utf8.specs.Utf8.{widthOf}
 use Rattle.scan.specs.Depth.{commentDepth, deepest, depthFrom, slashDepth, walkDepth}
+use Rattle.scan.specs.IfNext.{ifNext}
 use Rattle.scan.specs.Until.{until}
+use Rattle.reading.specs.Blank.{closes, ends, isMark, lineOver, oneLine, opens, passes}
 use Rattle.reading.specs.Gaps.{commentTurn, gapTurn}
-use Rattle.spans.specs.Depths.{most}
+use Rattle.spans.specs.Depths.{Layers, block, line, most, nothing, white}
 
 abbrev 'space : ℕ
 'space = 32
@@ -48,16 +50,36 @@ slashes-depth = refl
 
 -- ---- gaps
 -- /* /* */ */ /* */ : the greatest, not the last
-pub gap-two : walkDepth gapTurn ('/ ∷ '* ∷ 'space ∷ '/ ∷ '* ∷ 'space ∷ '* ∷ '/ ∷ 'space ∷ '* ∷ '/ ∷ 'space ∷ '/ ∷ '* ∷ 'space ∷ '* ∷ '/ ∷ []) 0 ≡ 2
+abbrev inner : List ℕ
+inner = 'space ∷ '/ ∷ '* ∷ 'space ∷ '* ∷ '/ ∷ 'space ∷ '* ∷ '/ ∷ []
+
+abbrev two : List ℕ
+two = '/ ∷ '* ∷ 'space ∷ '/ ∷ '* ∷ 'space ∷ '* ∷ '/ ∷ 'space ∷ '* ∷ '/ ∷ 'space ∷ '/ ∷ '* ∷ 'space ∷ '* ∷ '/ ∷ []
+
+pub gap-two-layers : Layers [] two 2
+unfolding most isMark ifNext
+gap-two-layers =
+    block inner (passes 'space refl (opens (passes 'space refl (closes (passes 'space refl ends)))))
+    (white 'space refl (block ('space ∷ '* ∷ '/ ∷ []) (passes 'space refl ends) nothing))
+
+pub gap-two : walkDepth gapTurn two 0 ≡ 2
 unfolding depthFrom deepest slashDepth gapTurn commentTurn until widthOf
 gap-two = refl
 
 -- // and a newline
+pub gap-line-layers : Layers [] ('/ ∷ '/ ∷ 'newline ∷ []) 0
+unfolding oneLine lineOver
+gap-line-layers = line [] refl refl (white 'newline refl nothing)
+
 pub gap-line : walkDepth gapTurn ('/ ∷ '/ ∷ 'newline ∷ []) 0 ≡ 0
 unfolding depthFrom deepest slashDepth gapTurn commentTurn until widthOf
 gap-line = refl
 
 -- // /* */ and a newline: a block comment in a line comment is none
+pub gap-covered-layers : Layers [] ('/ ∷ '/ ∷ 'space ∷ '/ ∷ '* ∷ 'space ∷ '* ∷ '/ ∷ 'newline ∷ []) 0
+unfolding oneLine lineOver
+gap-covered-layers = line ('space ∷ '/ ∷ '* ∷ 'space ∷ '* ∷ '/ ∷ []) refl refl (white 'newline refl nothing)
+
 pub gap-covered : walkDepth gapTurn ('/ ∷ '/ ∷ 'space ∷ '/ ∷ '* ∷ 'space ∷ '* ∷ '/ ∷ 'newline ∷ []) 0 ≡ 0
 unfolding depthFrom deepest slashDepth gapTurn commentTurn until widthOf
 gap-covered = refl

@@ -1,18 +1,19 @@
-// The program behind the script `teyk`: its first argument is a command, the others are files, and `--depth` may stand right after `list`. It
-// reads, calls the command's function, and writes the bytes that this made; all that talks to the system stands here.
+// The program behind the script `teyk`: its first argument is a command, the others are files; `--depth` and `--kept` may stand right after
+// `list`. It reads, calls the command's function, and writes the bytes that this made; all that talks to the system stands here.
 use commands::Said;
 use libc::STDERR_FILENO;
 use libc::STDOUT_FILENO;
+use record::Reading;
 use run::Group;
 use text::Came;
 ghost use mathlib.Core.Path.{_≡_};
 ghost use Prim.Native.Nat.{_≤_};
 ghost use lib.ListN.{length};
 
-// The commands by number; `list` with what its records hold: of nine numbers it tells depths. So `commands::list` has one caller, and its records
-// stand where those of `unpack` do: with two the stack would be too small.
+// The commands by number; `list` with its reading and with what its records hold: of nine numbers it tells depths. So `commands::list` has one
+// caller, and its records stand where those of `unpack` do: with two the stack would be too small.
 enum Command {
-    List(Group),
+    List(Reading, Group),
     Pack,
     Unpack,
     Unknown,
@@ -137,7 +138,9 @@ fn say(
     err: &mut [u8],
 ) -> Said {
     match command {
-        Command::List(group) => commands::list(part, group, headed, name, file, out, err),
+        Command::List(rd, group) => {
+            commands::list(part, rd, group, headed, name, file, out, err)
+        }
         Command::Pack => files::pack(name, file, out, err),
         Command::Unpack => files::unpack(part, headed, name, file, out, err),
         Command::Unknown => Said {
@@ -237,19 +240,32 @@ fn is_word<'a>(name: &'a [u8], word: &'a [u8]) -> bool {
     true
 }
 
-// The option of `list` that may stand right after it.
-fn list_group() -> Group {
-    let mut word = io::buffer();
-    let n = os::arg(2, &mut word);
-    if is_word(&word[..n], b"--depth") {
-        return Group::Nine;
+fn is_argument(i: usize, word: &[u8]) -> bool {
+    let mut name = io::buffer();
+    let n = os::arg(i, &mut name);
+    is_word(&name[..n], word)
+}
+
+// The command `list` with the options that may stand right after it, each once, in either order.
+fn list_command() -> Command {
+    if is_argument(2, b"--depth") {
+        if is_argument(3, b"--kept") {
+            return Command::List(Reading::Kept, Group::Nine);
+        }
+        return Command::List(Reading::Old, Group::Nine);
     }
-    Group::Five
+    if is_argument(2, b"--kept") {
+        if is_argument(3, b"--depth") {
+            return Command::List(Reading::Kept, Group::Nine);
+        }
+        return Command::List(Reading::Kept, Group::Five);
+    }
+    Command::List(Reading::Old, Group::Five)
 }
 
 fn command_named(name: &[u8]) -> Command {
     if is_word(name, b"list") {
-        return Command::List(list_group());
+        return list_command();
     }
     if is_word(name, b"pack") {
         return Command::Pack;
@@ -260,12 +276,18 @@ fn command_named(name: &[u8]) -> Command {
     Command::Unknown
 }
 
-// The first argument that names a file: the option stands before it.
+// The first argument that names a file: the options stand before it.
 fn first_file(command: Command) -> usize {
     match command {
-        Command::List(group) => match group {
-            Group::Five => 2,
-            Group::Nine => 3,
+        Command::List(rd, group) => match group {
+            Group::Five => match rd {
+                Reading::Old => 2,
+                Reading::Kept => 3,
+            },
+            Group::Nine => match rd {
+                Reading::Old => 3,
+                Reading::Kept => 4,
+            },
         },
         _ => 2,
     }

@@ -32,7 +32,8 @@ use Rattle.text.specs.Stores.{lay-fit, lay-full}
 use Rattle.text.specs.declared.Came.{Came}
 use Rattle.text.specs.declared.Came.the-variants.{Full, To}
 use Rattle.numbers.specs.Leaves.{Leaves, Left, short, tell, whole}
-use Rattle.teykonasir.specs.Calls.{Resumed, answerCode, answerCount, answerPlace, howCode, runNumbers, roomIn, runCall, resumed, resumeCall, expandCode, expandNumbers, expandCall, reportedCode, placeNumbers, placeCall, locatedCode, locatedNumber, placeAtCall, ltkNumbers, readCall, writeCall, nameCall, kindNameCall, codeNameCall, cameCode, cameLength}
+use Rattle.numbers.specs.Values.{howCode}
+use Rattle.teykonasir.specs.Calls.{Resumed, answerCode, answerCount, answerPlace, runNumbers, roomIn, runCall, resumed, resumeCall, expandCode, expandNumbers, expandCall, reportedCode, placeNumbers, placeCall, locatedCode, locatedNumber, placeAtCall, ltkNumbers, readCall, writeCall, nameCall, kindNameCall, codeNameCall, cameCode, cameLength}
 use Rattle.teykonasir.specs.State.{codeKnown, doneNumbers, stateNumbers, stateOf}
 use Rattle.teykonasir.specs.declared.KnownCode.the-variants.{Code as ACode}
 use Rattle.teykonasir.specs.declared.KnownState.{KnownState}

@@ -9,7 +9,6 @@ use Rattle.record.specs.Numbers.{codeNumber}
 use Rattle.record.specs.Records.{over}
 use Rattle.record.specs.declared.Code.the-variants.{BadRecord, NoRoom}
 use Rattle.reading.specs.Answers.{startState}
-use Rattle.reading.specs.declared.Outcome.{Outcome}
 use Rattle.run.specs.Checked.{ranOf, wholeRun}
 use Rattle.run.specs.Numbers.{groupSize, numbersAll}
 use Rattle.run.specs.declared.Ran.{Ran}
@@ -23,7 +22,7 @@ use Rattle.place.specs.declared.Reported.the-variants.{At, Refused}
 use Rattle.ltk.specs.Ltk.{entriesIn, readAnswer, readNumbers, writeAnswer, writtenBytes}
 use Rattle.ltk.specs.declared.Answer.{Answer}
 use Rattle.numbers.specs.Leaves.{Left, tell}
-use Rattle.numbers.specs.Values.{answerNumbers, expandedNumbers, locatedNumbers, outcomeNumbers, reportedNumbers}
+use Rattle.numbers.specs.Values.{answerNumbers, expandedNumbers, howCode, howPlace, locatedNumbers, reportedNumbers}
 use Rattle.text.specs.Names.{codeName, kindName}
 use Rattle.text.specs.declared.Came.{Came}
 use Rattle.text.specs.declared.Came.the-variants.{Full, To}
@@ -32,12 +31,6 @@ use Rattle.teykonasir.specs.declared.KnownState.{KnownState}
 use Rattle.teykonasir.specs.declared.KnownState.the-variants.{State as AState, Nothing as NoState}
 
 -- ---- a run. "`answer` gets code (0 at the end), place, number of records, advances; the result is the code."
-abbrev pub howCode : Outcome → ℕ
-howCode how = getD (outcomeNumbers how) 0 0
-
-abbrev pub howPlace : Outcome → ℕ
-howPlace how = getD (outcomeNumbers how) 1 0
-
 abbrev pub runNumbers : Ran → List ℕ
 runNumbers r = howCode (r .how) ∷ howPlace (r .how) ∷ r .stored ∷ r .advances ∷ []
 

@@ -6,6 +6,7 @@ use lib.Dec.{eqb, ltb}
 use lib.ListN.{getD}
 use Rattle.record.specs.Numbers.{codeNumber, codeOf}
 use Rattle.record.specs.Records.{refusal}
+use Rattle.record.specs.declared.Reading.the-variants.{Old}
 use Rattle.reading.specs.declared.Outcome.{Outcome}
 use Rattle.reading.specs.declared.Outcome.the-variants.{Ended, Refused, Running}
 use Rattle.reading.specs.declared.Tokenizer.{Tokenizer}
@@ -28,8 +29,9 @@ stateNumbers t = t .at ∷ t .count ∷ doneNumbers (t .done)
 unfoldable pub codeKnown : ℕ → KnownCode
 codeKnown n = cond (ltb n 1) NoCode (cond (ltb n 30) (ACode (codeOf n)) NoCode)
 
+-- the functions that take these numbers read in the old reading: it is not among them
 abbrev pub stateAt : ℕ → ℕ → Outcome → KnownState
-stateAt at count done = AState (record { at = at; count = count; done = done })
+stateAt at count done = AState (record { at = at; count = count; done = done; reading = Old })
 
 abbrev pub refusedAt : KnownCode → ℕ → ℕ → ℕ → KnownState
 refusedAt (ACode code) at count place = stateAt at count (Refused (refusal code place))

@@ -12,17 +12,23 @@ use Rattle.utf8.specs.Utf8.{boundary}
 use Rattle.record.specs.Checks.{checks}
 use Rattle.record.specs.Numbers.{codeNumber, codeOf, codes}
 use Rattle.record.specs.Records.{over, refusal}
+use Rattle.record.specs.declared.Checked.{Checked}
 use Rattle.record.specs.declared.Checked.the-variants.{Passed, Refused as Stopped}
 use Rattle.record.specs.declared.Code.{Code}
 use Rattle.record.specs.declared.Code.the-variants.{UnrecognizedToken, UnterminatedEscape, UnterminatedAsciiEscape, UnrecognizedEscape, UnterminatedStringLiteral, UnterminatedCharacterLiteral, UnterminatedAttribute, UnterminatedCode, ExpectedStringLiteral, UnterminatedBlockComment, NotUtf8, TooLong, ShiftTooLarge, NoRoom, WorkLimit, TrailingBackslash, BadMark, UnknownVersion, BadLength, BadRecord, SheetFull, HalfSymbol, StrayCharacter, UnknownReading, TooDeep, TextMismatch, ChangeListFull, BadEdit, StaleRecords}
+use Rattle.record.specs.declared.Reading.{Reading}
+use Rattle.record.specs.declared.Reading.the-variants.{Old}
 use Rattle.record.specs.declared.Refusal.{Refusal}
+use Rattle.reading.specs.AnyCall.{run-reading}
+use Rattle.reading.specs.Next.{next}
 use Rattle.reading.specs.declared.Outcome.{Outcome}
 use Rattle.reading.specs.declared.Outcome.the-variants.{Ended, Refused, Running}
 use Rattle.reading.specs.declared.Tokenizer.{Tokenizer}
-use Rattle.run.specs.Checked.{ranOf, ranWith, wholeRunWith}
+use Rattle.run.specs.Checked.{ranOf, ranWith, runIf, wholeRunWith}
 use Rattle.numbers.specs.Leaves.{tell}
 use Rattle.teykonasir.specs.Calls.{resumeCall, resumed, roomIn, runCall}
 use Rattle.teykonasir.specs.State.{codeKnown, doneNumbers, refusedAt, stateAt, stateFrom, stateNumbers, stateOf}
+use Rattle.teykonasir.specs.declared.KnownCode.{KnownCode}
 use Rattle.teykonasir.specs.declared.KnownCode.the-variants.{Code as ACode, Nothing as NoCode}
 use Rattle.teykonasir.specs.declared.KnownState.{KnownState}
 use Rattle.teykonasir.specs.declared.KnownState.the-variants.{State as AState, Nothing as NoState}
@@ -66,9 +72,10 @@ again at count Running old = refl
 again at count Ended old = refl
 again at count (Refused r) old = refused-again at count (r .place) (r .code)
 
--- THE THEOREM. A tokenizer that is stored over any numbers is the one that is read again: nothing is lost.
-pub state-again : (t : Tokenizer) (old : List ℕ) → stateOf (over (stateNumbers t) old) ≡ AState t
-state-again t old = again (t .at) (t .count) (t .done) old
+-- THE THEOREM. A tokenizer that is stored over any numbers is the one that is read again: nothing is lost. Of one in the old reading: the reading is not
+-- among the numbers.
+pub state-again : (t : Tokenizer) → t .reading ≡ Old → (old : List ℕ) → stateOf (over (stateNumbers t) old) ≡ AState t
+state-again t o old = again (t .at) (t .count) (t .done) old ∙ ap (λ (rd : Reading). AState (record { at = t .at; count = t .count; done = t .done; reading = rd })) (sym o)
 
 -- ---- and the numbers of the tokenizer that was read are those that stood there
 numbered : ℕ → List Code → Bool
@@ -99,7 +106,7 @@ module _ (a n d p : ℕ) (l : List ℕ) where
 
   is-back : (o : Outcome) → over (a ∷ n ∷ doneNumbers o) (a ∷ n ∷ d ∷ p ∷ l) ≡ a ∷ n ∷ d ∷ p ∷ l → Back (stateAt a n o)
   is-back o e t q =
-      let f : t ≡ record { at = a; count = n; done = o } = cc in
+      let f : t ≡ record { at = a; count = n; done = o; reading = Old } = cc in
       ap (λ (u : Tokenizer). over (stateNumbers u) (a ∷ n ∷ d ∷ p ∷ l)) f ∙ e
 
   no-back : Back NoState
@@ -131,6 +138,32 @@ numbers-again (a ∷ n ∷ []) h = absurd (omega (arith, h))
 numbers-again (a ∷ n ∷ d ∷ []) h = absurd (omega (arith, h))
 numbers-again (a ∷ n ∷ d ∷ p ∷ l) h = back-by a n d p l (eqb d 0) (eqb d 32) refl refl
 
+-- ---- the tokenizer that was read is in the old reading, and a run leaves it there
+abbrev IsOld : KnownState → Type 0
+IsOld k = (t : Tokenizer) → k ≡ AState t → t .reading ≡ Old
+
+at-old : (a n : ℕ) (o : Outcome) → IsOld (stateAt a n o)
+at-old a n o t q = let f : t ≡ record { at = a; count = n; done = o; reading = Old } = cc in ap (λ (u : Tokenizer). u .reading) f
+
+pub state-old : (l : List ℕ) (t : Tokenizer) → stateOf l ≡ AState t → t .reading ≡ Old
+unfolding stateFrom
+state-old l = go (eqb (getD l 2 0) 0) (eqb (getD l 2 0) 32) (codeKnown (getD l 2 0))
+  where
+    go : (b c : Bool) (k : KnownCode) → IsOld (cond b (stateAt (getD l 0 0) (getD l 1 0) Running) (cond c (stateAt (getD l 0 0) (getD l 1 0) Ended) (refusedAt k (getD l 0 0) (getD l 1 0) (getD l 3 0))))
+    go true c k = at-old _ _ _
+    go false true k = at-old _ _ _
+    go false false (ACode z) = at-old _ _ _
+    go false false NoCode = λ t q. cc
+
+ran-reading : (s : List ℕ) (shift limit room : ℕ) (t : Tokenizer) → ranOf s shift limit room t .state .reading ≡ t .reading
+unfolding ranWith wholeRunWith
+ran-reading s shift limit room t = go (checks s shift) (boundary s (t .at)) refl
+  where
+    go : (c : Checked) (b : Bool) → boundary s (t .at) ≡ b → runIf c s shift limit room t .state .reading ≡ t .reading
+    go (Stopped r) b q = refl
+    go Passed false q = rw q
+    go Passed true q = rw q (run-reading next s shift limit room t)
+
 -- ---- a run is the call from four zeros: the same result, the same records, the same answer
 module _ (s : List ℕ) (shift limit : ℕ) (records answer : List ℕ) where
   abbrev zeros : List ℕ
@@ -159,7 +192,7 @@ module _ (s : List ℕ) (shift limit : ℕ) (state records answer : List ℕ) (g
     -- the tokenizer as the run left it
     pub left-there : stateOf (resumeCall s shift limit state records answer .state) ≡ AState (ranOf s shift limit (roomIn records) t .state)
     unfolding resumed
-    left-there = rw (moved (AState t) e) (state-again (ranOf s shift limit (roomIn records) t .state) state)
+    left-there = rw (moved (AState t) e) (state-again (ranOf s shift limit (roomIn records) t .state) (ran-reading s shift limit (roomIn records) t ∙ state-old state t e) state)
 
     same-there : ranOf s shift limit (roomIn records) t .state ≡ t → resumeCall s shift limit state records answer .state ≡ state
     unfolding resumed

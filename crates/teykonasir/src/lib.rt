@@ -7,6 +7,7 @@ use place::Reported;
 use reading::Outcome;
 use reading::Tokenizer;
 use record::Code;
+use record::Reading;
 use record::Refusal;
 use run::Ran;
 use text::Came;
@@ -15,8 +16,8 @@ ghost use mathlib.Core.List.{[], _∷_};
 ghost use Prim.Native.Nat.{_≤_};
 ghost use lib.ListN.{length};
 ghost use Rattle.record.specs.Records.{over};
-ghost use Rattle.numbers.specs.Values.{heldNumber};
-ghost use Rattle.teykonasir.specs.Calls.{howCode, howPlace, runNumbers, expandCode, expandNumbers, reportedCode, placeNumbers, locatedCode, locatedNumber, answerCode, answerPlace, answerCount, runCall, resumeCall, expandCall, placeCall, placeAtCall, readCall, writeCall, kindNameCall, codeNameCall, cameCode, cameLength};
+ghost use Rattle.numbers.specs.Values.{heldNumber, howCode};
+ghost use Rattle.teykonasir.specs.Calls.{runNumbers, expandCode, expandNumbers, reportedCode, placeNumbers, locatedCode, locatedNumber, answerCode, answerPlace, answerCount, runCall, resumeCall, expandCall, placeCall, placeAtCall, readCall, writeCall, kindNameCall, codeNameCall, cameCode, cameLength};
 ghost use Rattle.teykonasir.specs.State.{codeKnown, stateFrom, stateNumbers};
 
 // 01's numbers of a refusal for want of room, and of one for numbers that stand for nothing.
@@ -37,31 +38,6 @@ pub enum KnownCode {
 pub enum KnownState {
     State(Tokenizer),
     Nothing,
-}
-
-// How a run stopped, by number: 0 at the end.
-fn how_code(how: Outcome) -> u64
-    ensures { λ r. ⌜ r ≡ howCode how ⌝ }
-{
-    match how {
-        Outcome::Refused(r) => {
-            let code = r.code;
-            record::code_number(code) as u64
-        }
-        Outcome::Ended => 0,
-        Outcome::Running => 0,
-    }
-}
-
-// Where a run was refused; 0 at the end.
-fn how_place(how: Outcome) -> u64
-    ensures { λ r. ⌜ r ≡ howPlace how ⌝ }
-{
-    match how {
-        Outcome::Refused(r) => r.place,
-        Outcome::Ended => 0,
-        Outcome::Running => 0,
-    }
 }
 
 // The number of the slice that holds an expansion.
@@ -188,9 +164,15 @@ fn put_ran(answer: &mut [u64], ran: Ran) -> u64
     ensures { λ r. ⌜ (r ≡ howCode (ran .how)) × (now (answer .exit) ≡ over (runNumbers ran) (now (answer .entry))) ⌝ }
 {
     let how = ran.how;
-    let code = how_code(how);
+    let code = numbers::how_code(how);
     let stored = ran.stored;
-    put_four(answer, code, how_place(how), stored as u64, ran.advances);
+    put_four(
+        answer,
+        code,
+        numbers::how_place(how),
+        stored as u64,
+        ran.advances,
+    );
     code
 }
 
@@ -242,7 +224,7 @@ fn code_of(n: u64) -> KnownCode
     KnownCode::Code(code)
 }
 
-// The tokenizer of four numbers.
+// The tokenizer of four numbers, in the old reading.
 fn state_from(at: u64, count: u64, done: u64, place: u64) -> KnownState
     ensures { λ r. ⌜ r ≡ stateFrom at count done place ⌝ }
 {
@@ -251,6 +233,7 @@ fn state_from(at: u64, count: u64, done: u64, place: u64) -> KnownState
             at,
             count,
             done: Outcome::Running,
+            reading: Reading::Old,
         });
     }
     if done == ENDED {
@@ -258,6 +241,7 @@ fn state_from(at: u64, count: u64, done: u64, place: u64) -> KnownState
             at,
             count,
             done: Outcome::Ended,
+            reading: Reading::Old,
         });
     }
     match code_of(done) {
@@ -265,6 +249,7 @@ fn state_from(at: u64, count: u64, done: u64, place: u64) -> KnownState
             at,
             count,
             done: Outcome::Refused(Refusal { code, place }),
+            reading: Reading::Old,
         }),
         KnownCode::Nothing => KnownState::Nothing,
     }

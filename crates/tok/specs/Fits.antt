@@ -11,6 +11,8 @@ use Rattle.utf8.specs.Laws.{Seen, ended, seen}
 use Rattle.utf8.specs.Utf8.{sightAt, widthOf}
 use Rattle.utf8.specs.declared.Sight.{Sight}
 use Rattle.utf8.specs.declared.Sight.the-variants.{Char, End as SightEnd}
+use Rattle.record.specs.declared.Reading.{Reading}
+use Rattle.record.specs.declared.Reading.the-variants.{Kept, Old}
 use Rattle.scan.specs.Far.{fits}
 use Rattle.scan.specs.IfNext.{ifNext}
 use Rattle.scan.specs.Until.{left}
@@ -37,10 +39,11 @@ module _ (s : List ℕ) (at : ℕ) where
   pub attempt-most : advancesOf (attempt (left s at) at) ≤ length s
   attempt-most = tried-most s at _ (attempt-tried (left s at) at)
 
-pub dropped-most : (cs : List ℕ) → dropped cs ≤ 1
+pub dropped-most : (rd : Reading) (cs : List ℕ) → dropped rd cs ≤ 1
 unfolding dropped
-dropped-most [] = omega arith
-dropped-most (c ∷ cs) = omega arith
+dropped-most Old [] = omega arith
+dropped-most Old (c ∷ cs) = omega arith
+dropped-most Kept cs = omega arith
 
 -- after a next character that is one byte wide
 pub next-drop : (s : List ℕ) (at k : ℕ) → widthOf k ≡ 1 → ifNext k (left s at) true false ≡ true → drop 1 (left s at) ≡ left s (at + 1)

@@ -2,6 +2,7 @@
 use reading::Attempt;
 use reading::Call;
 use record::Kind;
+use record::Reading;
 use scan::Skip;
 use scan::Turn;
 use scan::is_next;
@@ -9,6 +10,7 @@ use utf8::Sight;
 use utf8::signs;
 ghost use mathlib.Core.Path.{_≡_};
 ghost use Prim.Native.Nat.{ℕ, _+_, _-_, _<_, _≤_};
+ghost use Rattle.record.specs.declared.Reading.the-variants.{Old};
 ghost use Rattle.scan.specs.Until.{left};
 ghost use Rattle.scan.specs.Far.{after};
 ghost use Rattle.scan.specs.Walk.{walk, walkFrom};
@@ -158,9 +160,9 @@ struct Tail {
     passed: usize,
 }
 
-// ODDITY: after an attribute one further character is passed, if there is one, and belongs to no token: the old reading does so.
-fn dropped(s: &[u8], p: usize) -> Tail
-    ensures { λ r. ⌜ (r .at ≡ after (dropped (left (now (s .entry)) p)) (left (now (s .entry)) p) p) × (r .passed ≡ dropped (left (now (s .entry)) p)) ⌝ }
+// One further character, if there is one.
+fn one_dropped(s: &[u8], p: usize) -> Tail
+    ensures { λ r. ⌜ (r .at ≡ after (dropped Old (left (now (s .entry)) p)) (left (now (s .entry)) p) p) × (r .passed ≡ dropped Old (left (now (s .entry)) p)) ⌝ }
 {
     match utf8::char_at(s, p) {
         Sight::Char { code: _, width } => Tail {
@@ -171,11 +173,21 @@ fn dropped(s: &[u8], p: usize) -> Tail
     }
 }
 
-// The attribute from o to p, and what is dropped after it.
-fn attribute_token(s: &[u8], o: usize, p: usize) -> Call
-    ensures { λ r. ⌜ r ≡ attributeToken o (left (now (s .entry)) p) p ⌝ }
+// ODDITY, where the readings differ: after an attribute one further character is passed, in the old reading, and belongs to no token; in the kept one none.
+fn dropped(s: &[u8], rd: Reading, p: usize) -> Tail
+    ensures { λ r. ⌜ (r .at ≡ after (dropped rd (left (now (s .entry)) p)) (left (now (s .entry)) p) p) × (r .passed ≡ dropped rd (left (now (s .entry)) p)) ⌝ }
 {
-    let t = dropped(s, p);
+    match rd {
+        Reading::Old => one_dropped(s, p),
+        Reading::Kept => Tail { at: p, passed: 0 },
+    }
+}
+
+// The attribute from o to p, and what is dropped after it.
+fn attribute_token(s: &[u8], rd: Reading, o: usize, p: usize) -> Call
+    ensures { λ r. ⌜ r ≡ attributeToken rd o (left (now (s .entry)) p) p ⌝ }
+{
+    let t = dropped(s, rd, p);
     let x = reading::deliver(Kind::ShebangAttribute, o, o, p, p, 0);
     let w = x.what;
     Call {
@@ -188,11 +200,11 @@ fn attribute_token(s: &[u8], o: usize, p: usize) -> Call
 }
 
 // After a hash at o. The advances of a failed attempt stay counted.
-pub fn hash(s: &[u8], o: usize, at: usize) -> Call
-    ensures { λ r. ⌜ r ≡ hash o (left (now (s .entry)) at) at ⌝ }
+pub fn hash(s: &[u8], rd: Reading, o: usize, at: usize) -> Call
+    ensures { λ r. ⌜ r ≡ hash rd o (left (now (s .entry)) at) at ⌝ }
 {
     match shebang_attribute(s, at) {
-        Attempt::Closed(p, m) => crate::more(m, attribute_token(s, o, p)),
+        Attempt::Closed(p, m) => crate::more(m, attribute_token(s, rd, o, p)),
         Attempt::Failed(_, m) => reading::plain(Kind::Hash, o, at, m),
     }
 }

@@ -9,18 +9,28 @@ mod symbols;
 use reading::Call;
 use reading::Outcome;
 use reading::Tokenizer;
+use record::Reading;
 ghost use mathlib.Core.Path.{_≡_};
 ghost use Prim.Native.Nat.{_+_, _<_};
-ghost use Rattle.reading.specs.Answers.{more, startState};
+ghost use Rattle.reading.specs.Answers.{more, startIn, startState};
 
-pub fn start() -> Tokenizer
-    ensures { λ r. ⌜ r ≡ startState ⌝ }
+// Where a run starts, in a reading.
+pub fn start_in(rd: Reading) -> Tokenizer
+    ensures { λ r. ⌜ r ≡ startIn rd ⌝ }
 {
     Tokenizer {
         at: 0,
         count: 0,
         done: Outcome::Running,
+        reading: rd,
     }
+}
+
+// The same in 01's reading.
+pub fn start() -> Tokenizer
+    ensures { λ r. ⌜ r ≡ startState ⌝ }
+{
+    start_in(Reading::Old)
 }
 
 // The same call with n advances before it.

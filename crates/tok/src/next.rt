@@ -2,6 +2,7 @@
 use reading::Call;
 use reading::What;
 use record::Kind;
+use record::Reading;
 use record::Token;
 use record::Told;
 use scan::Skip;
@@ -18,25 +19,25 @@ ghost use Rattle.reading.specs.Symbols.{stray};
 ghost use Rattle.reading.specs.Words.{identifierish};
 
 // A character that no rule names, at o: it starts a word, or nothing.
-fn other(s: &[u8], c: u32, o: usize, next: usize) -> Call
-    ensures { λ r. ⌜ r ≡ cond (isIdentifierStart c) (more 1 (identifierish (left (now (s .entry)) o) o (left (now (s .entry)) next) next)) (stray o) ⌝ }
+fn other(s: &[u8], rd: Reading, c: u32, o: usize, next: usize) -> Call
+    ensures { λ r. ⌜ r ≡ cond (isIdentifierStart c) (more 1 (identifierish rd (left (now (s .entry)) o) o (left (now (s .entry)) next) next)) (stray o) ⌝ }
 {
     if unicode::is_identifier_start(c) {
-        return crate::more(1, crate::identifier::identifierish(s, o, next));
+        return crate::more(1, crate::identifier::identifierish(s, rd, o, next));
     }
     crate::symbols::stray(o)
 }
 
 // By a first character c at o that is no hash and no symbol of one character; the text goes on at next.
-fn starts(s: &[u8], c: u32, o: usize, next: usize) -> Call
+fn starts(s: &[u8], rd: Reading, c: u32, o: usize, next: usize) -> Call
     requires { ⌜ left (now s) o ≡ c ∷ left (now s) next ⌝ }
-    ensures { λ r. ⌜ r ≡ starts c (left (now (s .entry)) next) o next ⌝ }
+    ensures { λ r. ⌜ r ≡ starts rd c (left (now (s .entry)) next) o next ⌝ }
 {
     let x = match c {
         signs::BANG => crate::symbols::bang(s, o, next),
         signs::COLON => crate::symbols::colon(s, o, next),
         signs::DOT => crate::symbols::dot(s, o, next),
-        signs::EQUALS => crate::symbols::equals(s, o, next),
+        signs::EQUALS => crate::symbols::equals(s, rd, o, next),
         signs::AT => crate::symbols::look(s, o, next),
         signs::TILDE => crate::symbols::tilde(s, o, next),
         signs::BACKTICK => words::quotes::escape(s, o, next),
@@ -44,22 +45,22 @@ fn starts(s: &[u8], c: u32, o: usize, next: usize) -> Call
         signs::DOUBLE_QUOTE => words::quotes::string_literal(s, o, next),
         signs::SLASH => crate::symbols::half(o, next),
         signs::MINUS => crate::symbols::minus(s, o, next),
-        signs::LOWER_R => crate::regex::r_word(s, o, next),
+        signs::LOWER_R => crate::regex::r_word(s, rd, o, next),
         _ => {
-            return other(s, c, o, next);
+            return other(s, rd, c, o, next);
         }
     };
     crate::more(1, x)
 }
 
 // The token that starts with the character c at o, after which the text goes on at next.
-fn token(s: &[u8], c: u32, o: usize, next: usize) -> Call
+fn token(s: &[u8], rd: Reading, c: u32, o: usize, next: usize) -> Call
     requires { ⌜ left (now s) o ≡ c ∷ left (now s) next ⌝ }
-    ensures { λ r. ⌜ r ≡ token c (left (now (s .entry)) next) o next ⌝ }
+    ensures { λ r. ⌜ r ≡ token rd c (left (now (s .entry)) next) o next ⌝ }
 {
     let kind = match c {
         signs::HASH => {
-            return crate::more(1, crate::attribute::hash(s, o, next));
+            return crate::more(1, crate::attribute::hash(s, rd, o, next));
         }
         signs::AMPERSAND => Kind::Ampersand,
         signs::COMMA => Kind::Comma,
@@ -76,18 +77,18 @@ fn token(s: &[u8], c: u32, o: usize, next: usize) -> Call
         signs::SEMI => Kind::Semi,
         signs::STAR => Kind::Star,
         _ => {
-            return starts(s, c, o, next);
+            return starts(s, rd, c, o, next);
         }
     };
     reading::plain(kind, o, next, 1)
 }
 
 // The token, the error or the end at a place where no gap is.
-pub fn token_or_end(s: &[u8], o: usize) -> Call
-    ensures { λ r. ⌜ r ≡ tokenOrEnd (left (now (s .entry)) o) o ⌝ }
+pub fn token_or_end(s: &[u8], rd: Reading, o: usize) -> Call
+    ensures { λ r. ⌜ r ≡ tokenOrEnd rd (left (now (s .entry)) o) o ⌝ }
 {
     match utf8::char_at(s, o) {
-        Sight::Char { code, width } => token(s, code, o, o + width),
+        Sight::Char { code, width } => token(s, rd, code, o, o + width),
         Sight::End => Call {
             what: What::End,
             at: o as u64,
@@ -140,13 +141,13 @@ fn told(g: usize, x: Call) -> Call
 }
 
 // One call from a place.
-pub fn next_unshifted(s: &[u8], at: usize) -> Call
-    ensures { λ r. ⌜ r ≡ next (left (now (s .entry)) at) at ⌝ }
+pub fn next_unshifted(s: &[u8], rd: Reading, at: usize) -> Call
+    ensures { λ r. ⌜ r ≡ next rd (left (now (s .entry)) at) at ⌝ }
 {
     let x = crate::gaps::gap(s, at);
     let skip = x.skip;
     match skip {
-        Skip::Past(p, m) => told(x.depth, crate::more(m, token_or_end(s, p))),
+        Skip::Past(p, m) => told(x.depth, crate::more(m, token_or_end(s, rd, p))),
         Skip::Lost(r, p, m) => reading::fail(r, p, m),
     }
 }

@@ -2,6 +2,7 @@
 use reading::Call;
 use record::Code;
 use record::Kind;
+use record::Reading;
 use scan::Found;
 use scan::Sought;
 use utf8::Sight;
@@ -33,8 +34,8 @@ fn regex_token(s: &[u8], o: usize, h: usize, at: usize) -> Call
 }
 
 // After r at o and h hashes: a quote, an identifier start, or neither.
-fn hashed(s: &[u8], o: usize, h: usize, at: usize) -> Call
-    ensures { λ r. ⌜ r ≡ hashed (left (now (s .entry)) o) o h (left (now (s .entry)) at) at ⌝ }
+fn hashed(s: &[u8], rd: Reading, o: usize, h: usize, at: usize) -> Call
+    ensures { λ r. ⌜ r ≡ hashed rd (left (now (s .entry)) o) o h (left (now (s .entry)) at) at ⌝ }
 {
     match utf8::char_at(s, at) {
         Sight::Char { code, width } => {
@@ -42,7 +43,7 @@ fn hashed(s: &[u8], o: usize, h: usize, at: usize) -> Call
                 return crate::more(1, regex_token(s, o, h, at + width));
             }
             if unicode::is_identifier_start(code) {
-                return crate::more(1, crate::identifier::identifierish(s, o, at + width));
+                return crate::more(1, crate::identifier::identifierish(s, rd, o, at + width));
             }
             reading::refuse(Code::ExpectedStringLiteral, at, at, 0)
         }
@@ -51,11 +52,11 @@ fn hashed(s: &[u8], o: usize, h: usize, at: usize) -> Call
 }
 
 // After r at o, where a hash or a quote stands.
-fn regex_literal(s: &[u8], o: usize, at: usize) -> Call
-    ensures { λ r. ⌜ r ≡ regexLiteral (left (now (s .entry)) o) o (left (now (s .entry)) at) at ⌝ }
+fn regex_literal(s: &[u8], rd: Reading, o: usize, at: usize) -> Call
+    ensures { λ r. ⌜ r ≡ regexLiteral rd (left (now (s .entry)) o) o (left (now (s .entry)) at) at ⌝ }
 {
     match scan::take_until(s, at, Sought::Hashes) {
-        Found::At { place, passed } => crate::more(passed, hashed(s, o, passed, place)),
+        Found::At { place, passed } => crate::more(passed, hashed(s, rd, o, passed, place)),
         Found::Nothing { place, passed } => reading::refuse(
             Code::UnterminatedStringLiteral,
             o,
@@ -66,14 +67,14 @@ fn regex_literal(s: &[u8], o: usize, at: usize) -> Call
 }
 
 // After the letter r at o.
-pub fn r_word(s: &[u8], o: usize, at: usize) -> Call
-    ensures { λ r. ⌜ r ≡ rWord (left (now (s .entry)) o) o (left (now (s .entry)) at) at ⌝ }
+pub fn r_word(s: &[u8], rd: Reading, o: usize, at: usize) -> Call
+    ensures { λ r. ⌜ r ≡ rWord rd (left (now (s .entry)) o) o (left (now (s .entry)) at) at ⌝ }
 {
     if scan::is_next(s, at, signs::HASH) {
-        return regex_literal(s, o, at);
+        return regex_literal(s, rd, o, at);
     }
     if scan::is_next(s, at, signs::DOUBLE_QUOTE) {
-        return regex_literal(s, o, at);
+        return regex_literal(s, rd, o, at);
     }
-    crate::identifier::identifierish(s, o, at)
+    crate::identifier::identifierish(s, rd, o, at)
 }

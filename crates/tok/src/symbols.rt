@@ -2,6 +2,7 @@
 use reading::Call;
 use record::Code;
 use record::Kind;
+use record::Reading;
 use scan::is_next;
 use utf8::Sight;
 use utf8::signs;
@@ -118,15 +119,15 @@ fn arrow_look(s: &[u8], o: usize, at: usize) -> Call
 }
 
 // After `=>` or `=>?`.
-fn arrow_code(s: &[u8], kind: Kind, o: usize, at: usize) -> Call
-    ensures { λ r. ⌜ r ≡ arrowCode kind o (left (now (s .entry)) at) at ⌝ }
+fn arrow_code(s: &[u8], rd: Reading, kind: Kind, o: usize, at: usize) -> Call
+    ensures { λ r. ⌜ r ≡ arrowCode rd kind o (left (now (s .entry)) at) at ⌝ }
 {
-    words::code_token(kind, o, at, code::code(s, at, o))
+    words::code_token(kind, o, at, code::code(s, rd, at, o))
 }
 
 // After `=>`.
-fn right_arrow(s: &[u8], o: usize, at: usize) -> Call
-    ensures { λ r. ⌜ r ≡ rightArrow o (left (now (s .entry)) at) at ⌝ }
+fn right_arrow(s: &[u8], rd: Reading, o: usize, at: usize) -> Call
+    ensures { λ r. ⌜ r ≡ rightArrow rd o (left (now (s .entry)) at) at ⌝ }
 {
     match utf8::char_at(s, at) {
         Sight::Char { code, width } => {
@@ -136,23 +137,23 @@ fn right_arrow(s: &[u8], o: usize, at: usize) -> Call
             if code == signs::QUESTION {
                 return crate::more(
                     1,
-                    arrow_code(s, Kind::EqualsGreaterThanQuestionCode, o, at + width),
+                    arrow_code(s, rd, Kind::EqualsGreaterThanQuestionCode, o, at + width),
                 );
             }
-            arrow_code(s, Kind::EqualsGreaterThanCode, o, at)
+            arrow_code(s, rd, Kind::EqualsGreaterThanCode, o, at)
         }
         Sight::End => reading::refuse(Code::UnterminatedCode, o, at, 0),
     }
 }
 
-pub fn equals(s: &[u8], o: usize, at: usize) -> Call
-    ensures { λ r. ⌜ r ≡ equals o (left (now (s .entry)) at) at ⌝ }
+pub fn equals(s: &[u8], rd: Reading, o: usize, at: usize) -> Call
+    ensures { λ r. ⌜ r ≡ equals rd o (left (now (s .entry)) at) at ⌝ }
 {
     if is_next(s, at, signs::EQUALS) {
         return reading::plain(Kind::EqualsEquals, o, at + 1, 1);
     }
     if is_next(s, at, signs::GREATER_THAN) {
-        return crate::more(1, right_arrow(s, o, at + 1));
+        return crate::more(1, right_arrow(s, rd, o, at + 1));
     }
     reading::plain(Kind::Equals, o, at, 0)
 }

@@ -1,4 +1,4 @@
--- One call: the two readings step by step. What both share answers neither 22 nor 23, so the map leaves it as it is.
+-- One call: the two definitions step by step, in either reading. What both share answers neither 22 nor 23, so the map leaves it as it is.
 use Prim.Native.Nat.{_+_, ℕ}
 use mathlib.Core.Bool.{Bool, cond, false, true}
 use mathlib.Core.List.{List, [], _∷_}
@@ -8,6 +8,7 @@ use lib.ListN.{drop}
 use Rattle.utf8.specs.Utf8.{widthOf}
 use Rattle.record.specs.Codes.{among}
 use Rattle.record.specs.declared.Kind.{Kind}
+use Rattle.record.specs.declared.Reading.{Reading}
 use Rattle.scan.specs.IfNext.{ifNext}
 use Rattle.scan.specs.declared.Skip.{Skip}
 use Rattle.scan.specs.declared.Skip.the-variants.{Lost, Past}
@@ -23,11 +24,11 @@ use Rattle.unknown.specs.Map.{rustCall, rustWhat}
 use Rattle.unknown.specs.Shared.{Any, Coarse, code-coarse, gap-coarse, hash-coarse, shared}
 use Rattle.unknown.specs.Rust as rust
 
--- a call of the old reading, and one of the new of which it is the map
+-- a call by the old definition, and one by the new of which it is the map
 pub record Mapped (x y : Call) : Type 0 where
   pub is : x ≡ rustCall y
 
--- what both readings share
+-- what both definitions share
 stays : (w : What) → SaysIn Any Coarse w → w ≡ rustWhat w
 stays (Got t) h = refl
 stays (Error r) h = rw h
@@ -93,34 +94,11 @@ module _ (o : ℕ) (cs : List ℕ) (at : ℕ) where
   unfolding rust.arrowLook arrowLook
   arrow-look-mapped = search maps
 
-arrow-mapped : (o : ℕ) (cs : List ℕ) (at : ℕ) → Mapped (rust.rightArrow o cs at) (rightArrow o cs at)
-unfolding rust.rightArrow rightArrow refuse among
-arrow-mapped o [] at = record { is = refl }
-arrow-mapped o (c ∷ cs) at = search (maps, arrow-look-mapped, mapped-stays, code-coarse)
-
-equals-mapped : (o : ℕ) (cs : List ℕ) (at : ℕ) → Mapped (rust.equals o cs at) (equals o cs at)
-unfolding rust.equals equals
-equals-mapped o cs at = search (maps, arrow-mapped)
-
 -- ---- the dispatch
 single-mapped : (ks : List (ℕ × Kind)) (c o at : ℕ) (x y : Call) → Mapped x y → Mapped (single ks c o at x) (single ks c o at y)
 unfolding single
 single-mapped [] c o at x y h = h
 single-mapped (k ∷ ks) c o at x y h = mapped-test (eqb c (k .0)) _ _ _ _ (mapped-plain (k .1) o at 1) (single-mapped ks c o at x y h)
-
-starts-mapped : (c : ℕ) (cs : List ℕ) (o at : ℕ) → Mapped (rust.starts c cs o at) (starts c cs o at)
-unfolding rust.starts starts
-starts-mapped c cs o at =
-    search (mapped-test, mapped-more, bang-mapped, colon-mapped, dot-mapped, equals-mapped, look-mapped, tilde-mapped, mapped-half, minus-mapped, mapped-stray, mapped-stays, shared) depth 18
-
-token-mapped : (c : ℕ) (cs : List ℕ) (o at : ℕ) → Mapped (rust.token c cs o at) (token c cs o at)
-unfolding rust.token token
-token-mapped c cs o at = mapped-test (eqb c 35) _ _ _ _ (mapped-more 1 _ _ (mapped-stays _ (hash-coarse o cs at))) (single-mapped singles c o at _ _ (starts-mapped c cs o at))
-
-or-end-mapped : (cs : List ℕ) (o : ℕ) → Mapped (rust.tokenOrEnd cs o) (tokenOrEnd cs o)
-unfolding rust.tokenOrEnd tokenOrEnd
-or-end-mapped [] o = record { is = refl }
-or-end-mapped (c ∷ cs) o = token-mapped c cs o (o + widthOf c)
 
 told-what : (g d : ℕ) (w : What) → toldWhat g d (rustWhat w) ≡ rustWhat (toldWhat g d w)
 told-what g d (Got t) = refl
@@ -131,10 +109,35 @@ mapped-told : (g : ℕ) (x y : Call) → Mapped x y → Mapped (told g x) (told 
 unfolding told
 mapped-told g x y h = record { is = rw (h .is, told-what g (y .«code_depth») (y .what)) }
 
-pub next-mapped : (cs : List ℕ) (at : ℕ) → Mapped (rust.next cs at) (next cs at)
-unfolding rust.next next
-next-mapped cs at = go (gap cs at) (gap-coarse cs at)
-  where
-    go : (x : Skip) → Loses Coarse x → Mapped (rust.nextBy cs x (gapDepth cs at)) (nextBy cs x (gapDepth cs at))
-    go (Past p m) h = mapped-told _ _ _ (mapped-more m _ _ (or-end-mapped (drop m cs) p))
-    go (Lost r p m) h = record { is = rw (h .is) }
+-- in every reading
+module _ (rd : Reading) where
+  arrow-mapped : (o : ℕ) (cs : List ℕ) (at : ℕ) → Mapped (rust.rightArrow rd o cs at) (rightArrow rd o cs at)
+  unfolding rust.rightArrow rightArrow refuse among
+  arrow-mapped o [] at = record { is = refl }
+  arrow-mapped o (c ∷ cs) at = search (maps, arrow-look-mapped, mapped-stays, code-coarse)
+
+  equals-mapped : (o : ℕ) (cs : List ℕ) (at : ℕ) → Mapped (rust.equals rd o cs at) (equals rd o cs at)
+  unfolding rust.equals equals
+  equals-mapped o cs at = search (maps, arrow-mapped)
+
+  starts-mapped : (c : ℕ) (cs : List ℕ) (o at : ℕ) → Mapped (rust.starts rd c cs o at) (starts rd c cs o at)
+  unfolding rust.starts starts
+  starts-mapped c cs o at =
+      search (mapped-test, mapped-more, bang-mapped, colon-mapped, dot-mapped, equals-mapped, look-mapped, tilde-mapped, mapped-half, minus-mapped, mapped-stray, mapped-stays, shared) depth 18
+
+  token-mapped : (c : ℕ) (cs : List ℕ) (o at : ℕ) → Mapped (rust.token rd c cs o at) (token rd c cs o at)
+  unfolding rust.token token
+  token-mapped c cs o at = mapped-test (eqb c 35) _ _ _ _ (mapped-more 1 _ _ (mapped-stays _ (hash-coarse rd o cs at))) (single-mapped singles c o at _ _ (starts-mapped c cs o at))
+
+  or-end-mapped : (cs : List ℕ) (o : ℕ) → Mapped (rust.tokenOrEnd rd cs o) (tokenOrEnd rd cs o)
+  unfolding rust.tokenOrEnd tokenOrEnd
+  or-end-mapped [] o = record { is = refl }
+  or-end-mapped (c ∷ cs) o = token-mapped c cs o (o + widthOf c)
+
+  pub next-mapped : (cs : List ℕ) (at : ℕ) → Mapped (rust.next rd cs at) (next rd cs at)
+  unfolding rust.next next
+  next-mapped cs at = go (gap cs at) (gap-coarse cs at)
+    where
+      go : (x : Skip) → Loses Coarse x → Mapped (rust.nextBy rd cs x (gapDepth cs at)) (nextBy rd cs x (gapDepth cs at))
+      go (Past p m) h = mapped-told _ _ _ (mapped-more m _ _ (or-end-mapped (drop m cs) p))
+      go (Lost r p m) h = record { is = rw (h .is) }

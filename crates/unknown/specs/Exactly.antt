@@ -19,6 +19,7 @@ use Rattle.record.specs.declared.Code.{Code}
 use Rattle.record.specs.declared.Code.the-variants.{HalfSymbol, NoRoom, StrayCharacter}
 use Rattle.record.specs.declared.Refusal.{Refusal}
 use Rattle.record.specs.declared.Token.{Token}
+use Rattle.record.specs.declared.Reading.{Reading}
 use Rattle.scan.specs.Far.{Far, far-left}
 use Rattle.scan.specs.Until.{left}
 use Rattle.scan.specs.declared.Skip.{Skip}
@@ -113,36 +114,38 @@ deep-told p g d (Got t) = refl
 deep-told p g d (Error r) = refl
 deep-told p g d End = refl
 
--- ---- OF A CALL. Its gap is passed, and a token is to start at p
-module _ (s : List ℕ) (at p m : ℕ) (e : gap (left s at) at ≡ Past p m) where
-  there : told p (next (left s at) at .what) ≡ unknownOf (left s p)
-  unfolding more deep
-  there =
-      let f : Far (left s at) at m p = (rw e at (gap-sound (left s at) at)) .is in
-      let o : over (left s p) ≡ true = rw (far-left s at m p f) at (gap-over (left s at) at p m e) in
-      let y = tokenOrEnd (left s p) p in
-      rw (next-gap s at p m e) (deep-told p (gapDepth (left s at) at) (y .«code_depth») (y .what) ∙ first-told (left s p) p o)
+-- in every reading
+module _ (rd : Reading) where
+  -- ---- OF A CALL. Its gap is passed, and a token is to start at p
+  module _ (s : List ℕ) (at p m : ℕ) (e : gap (left s at) at ≡ Past p m) where
+    there : told p (next rd (left s at) at .what) ≡ unknownOf (left s p)
+    unfolding more deep
+    there =
+        let f : Far (left s at) at m p = (rw e at (gap-sound (left s at) at)) .is in
+        let o : over (left s p) ≡ true = rw (far-left s at m p f) at (gap-over (left s at) at p m e) in
+        let y = tokenOrEnd rd (left s p) p in
+        rw (next-gap rd s at p m e) (deep-told p (gapDepth (left s at) at) (y .«code_depth») (y .what) ∙ first-told rd (left s p) p o)
 
-  pub half-there : isHalf (left s p) ≡ true → next (left s at) at .what ≡ Error (refusal HalfSymbol p)
-  unfolding unknownOf
-  half-there h = answer-so p HalfSymbol _ (rw h at there) refl
+    pub half-there : isHalf (left s p) ≡ true → next rd (left s at) at .what ≡ Error (refusal HalfSymbol p)
+    unfolding unknownOf
+    half-there h = answer-so p HalfSymbol _ (rw h at there) refl
 
-  pub stray-there : isStray (left s p) ≡ true → next (left s at) at .what ≡ Error (refusal StrayCharacter p)
-  unfolding unknownOf
-  stray-there h = let g = not-both (left s p) h in answer-so p StrayCharacter _ (rw (g, h) at there) refl
+    pub stray-there : isStray (left s p) ≡ true → next rd (left s at) at .what ≡ Error (refusal StrayCharacter p)
+    unfolding unknownOf
+    stray-there h = let g = not-both (left s p) h in answer-so p StrayCharacter _ (rw (g, h) at there) refl
 
--- whichever call answers one of the two: it is that of the characters at the place that is told
-pub told-there : (s : List ℕ) (at : ℕ) (z : Refusal) → next (left s at) at .what ≡ Error z → isFiner (codeNumber (z .code)) ≡ true → codeNumber (z .code) ≡ unknownOf (left s (z .place))
-told-there s at z e f = go (gap (left s at) at) refl (gap-coarse (left s at) at)
-  where
-    go : (x : Skip) → gap (left s at) at ≡ x → Loses Coarse x → codeNumber (z .code) ≡ unknownOf (left s (z .place))
-    go (Past p m) q h =
-        let t = told-so p (left s p) z (rw e at (there s at p m q)) f in
-        t .1 ∙ ap (λ (k : ℕ). unknownOf (left s k)) (sym (t .0))
-    go (Lost r p m) q h =
-        let w : Error r ≡ Error z = sym (ap (λ (x : Call). x .what) (next-lost s at p m r q)) ∙ e in
-        let v : r ≡ z = cc in
-        no (sym (rw v at (h .is)) ∙ f)
+  -- whichever call answers one of the two: it is that of the characters at the place that is told
+  pub told-there : (s : List ℕ) (at : ℕ) (z : Refusal) → next rd (left s at) at .what ≡ Error z → isFiner (codeNumber (z .code)) ≡ true → codeNumber (z .code) ≡ unknownOf (left s (z .place))
+  told-there s at z e f = go (gap (left s at) at) refl (gap-coarse (left s at) at)
+    where
+      go : (x : Skip) → gap (left s at) at ≡ x → Loses Coarse x → codeNumber (z .code) ≡ unknownOf (left s (z .place))
+      go (Past p m) q h =
+          let t = told-so p (left s p) z (rw e at (there s at p m q)) f in
+          t .1 ∙ ap (λ (k : ℕ). unknownOf (left s k)) (sym (t .0))
+      go (Lost r p m) q h =
+          let w : Error r ≡ Error z = sym (ap (λ (x : Call). x .what) (next-lost rd s at p m r q)) ∙ e in
+          let v : r ≡ z = cc in
+          no (sym (rw v at (h .is)) ∙ f)
 
 -- ---- OF THE PUBLIC CALLS. The place carries the shift
 abbrev pub UnknownAt : List ℕ → ℕ → Refusal → Type 0
@@ -156,7 +159,7 @@ module _ (s : List ℕ) (shift limit : ℕ) where
       let c : r .code ≡ z .code = ap (λ (x : Refusal). x .code) u in
       let p : r .place + shift ≡ z .place = ap (λ (x : Refusal). x .place) u in
       let n : z .place - shift ≡ r .place = omega (arith, p) in
-      (omega (arith, p), rw (← c, n) (told-there s (t .at) r q (rw (← c) at f)))
+      (omega (arith, p), rw (← c, n) (told-there (t .reading) s (t .at) r q (rw (← c) at f)))
   from-read t End z q e f = let u : _≡_ {A = ℕ} 0 1 = cc in absurd (omega arith)
 
   -- what `run::next` answers from a tokenizer that runs

@@ -1,4 +1,4 @@
--- ROWS, by computation: what tells the two apart in each of 02's cases. In the old reading each row has 1 in place of its code, and nothing else changes.
+-- ROWS, by computation: what tells the two apart in each of 02's cases. By the old definition each row has 1 in place of its code, and nothing else changes.
 use Prim.Native.Nat.{ℕ}
 use mathlib.Core.List.{List, [], _∷_}
 use mathlib.Core.Path.{_≡_, refl}
@@ -14,7 +14,7 @@ use Rattle.scan.specs.Far.{after}
 use Rattle.scan.specs.IfNext.{ifNext}
 use Rattle.scan.specs.Until.{until}
 use Rattle.scan.specs.Walk.{walkFrom}
-use Rattle.code.specs.Code.{bodySkip, closes, codeTurn, escSkip, oneSkip, opens, quoteEnd, quoteSkip, rSkip, slashSkip}
+use Rattle.code.specs.Code.{bodySkip, closes, codeTurn, escSkip, oneSkip, opens, quoteEnd, quoteLast, quoteSkip, rSkip, slashSkip}
 use Rattle.reading.specs.Answers.{deliver, more, plain, refuse, startState, told}
 use Rattle.reading.specs.Attribute.{attempt, attemptBody, attemptBracket, attributeToken, attributeTurn, dropped, hash}
 use Rattle.reading.specs.Gaps.{commentTurn, gap, gapTurn}
@@ -80,10 +80,10 @@ answered [] = []
 answered (r ∷ rs) = numbersOf (ranOf (r .0) 0 99 9 startState) ∷ answered rs
 
 pub which-is-which : answered rows ≡ expected rows
-unfolding answered expected rows ranWith wholeRunWith checks reach runWith runFromWith stepWith next gap gapTurn commentTurn tokenOrEnd token starts single singles half stray bang colon dot look tilde minus arrowLook arrowCode rightArrow equals attributeTurn attemptBody attemptBracket attempt dropped attributeToken hash regexToken hashed regexLiteral rWord spells keywords useToken idToken keywordToken wordToken identifierish escape stringLiteral charLiteral lifetimeish slashSkip quoteEnd oneSkip escSkip quoteSkip bodySkip rSkip opens closes codeTurn walkFrom deliver plain refuse more told depthFrom slashDepth deepest ifNext until after chars charsFrom sight lead low high widthOf startRanges continueRanges holds inRanges
+unfolding answered expected rows ranWith wholeRunWith checks reach runWith runFromWith stepWith next gap gapTurn commentTurn tokenOrEnd token starts single singles half stray bang colon dot look tilde minus arrowLook arrowCode rightArrow equals attributeTurn attemptBody attemptBracket attempt dropped attributeToken hash regexToken hashed regexLiteral rWord spells keywords useToken idToken keywordToken wordToken identifierish escape stringLiteral charLiteral lifetimeish slashSkip quoteLast quoteEnd oneSkip escSkip quoteSkip bodySkip rSkip opens closes codeTurn walkFrom deliver plain refuse more told depthFrom slashDepth deepest ifNext until after chars charsFrom sight lead low high widthOf startRanges continueRanges holds inRanges
 which-is-which = refl
 
--- the old reading
+-- the old definition
 abbrev mapped : List ℕ → List ℕ
 mapped [] = []
 mapped (code ∷ ns) = rustNumber code ∷ ns
@@ -97,5 +97,5 @@ rustAnswered [] = []
 rustAnswered (r ∷ rs) = numbersOf (ranWith rust.next (r .0) 0 99 9 startState) ∷ rustAnswered rs
 
 pub as-it-was : rustAnswered rows ≡ rustExpected rows
-unfolding rustAnswered rustExpected rows ranWith wholeRunWith checks reach runWith runFromWith stepWith rust.next gap gapTurn commentTurn rust.tokenOrEnd rust.token rust.starts single singles rust.half rust.stray bang colon rust.dot rust.look rust.tilde rust.minus rust.arrowLook arrowCode rust.rightArrow rust.equals attributeTurn attemptBody attemptBracket attempt dropped attributeToken hash regexToken hashed regexLiteral rWord spells keywords useToken idToken keywordToken wordToken identifierish escape stringLiteral charLiteral lifetimeish slashSkip quoteEnd oneSkip escSkip quoteSkip bodySkip rSkip opens closes codeTurn walkFrom deliver plain refuse more told depthFrom slashDepth deepest ifNext until after chars charsFrom sight lead low high widthOf startRanges continueRanges holds inRanges
+unfolding rustAnswered rustExpected rows ranWith wholeRunWith checks reach runWith runFromWith stepWith rust.next gap gapTurn commentTurn rust.tokenOrEnd rust.token rust.starts single singles rust.half rust.stray bang colon rust.dot rust.look rust.tilde rust.minus rust.arrowLook arrowCode rust.rightArrow rust.equals attributeTurn attemptBody attemptBracket attempt dropped attributeToken hash regexToken hashed regexLiteral rWord spells keywords useToken idToken keywordToken wordToken identifierish escape stringLiteral charLiteral lifetimeish slashSkip quoteLast quoteEnd oneSkip escSkip quoteSkip bodySkip rSkip opens closes codeTurn walkFrom deliver plain refuse more told depthFrom slashDepth deepest ifNext until after chars charsFrom sight lead low high widthOf startRanges continueRanges holds inRanges
 as-it-was = refl

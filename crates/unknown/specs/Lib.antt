@@ -1,4 +1,4 @@
--- what a reader must believe: 01's reading as it was, and the map
+-- what a reader must believe: 01's own definition, and the map
 pub mod Rust
 pub mod Map
 pub mod Unknowns

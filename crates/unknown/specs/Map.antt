@@ -30,7 +30,7 @@ rustOutcome Ended = Ended
 rustOutcome (Refused r) = Refused (rustRefusal r)
 
 abbrev pub rustTokenizer : Tokenizer → Tokenizer
-rustTokenizer t = record { at = t .at; count = t .count; done = rustOutcome (t .done) }
+rustTokenizer t = record { at = t .at; count = t .count; done = rustOutcome (t .done); reading = t .reading }
 
 abbrev pub rustStepped : Stepped → Stepped
 rustStepped x = record { what = rustWhat (x .what); next = rustTokenizer (x .next); «gap_depth» = x .«gap_depth» }

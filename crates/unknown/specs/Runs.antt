@@ -14,6 +14,7 @@ use Rattle.record.specs.declared.Checked.{Checked}
 use Rattle.record.specs.declared.Checked.the-variants.{Passed, Refused as Stopped}
 use Rattle.record.specs.declared.Code.{Code}
 use Rattle.record.specs.declared.Code.the-variants.{BadRecord, WorkLimit}
+use Rattle.record.specs.declared.Reading.{Reading}
 use Rattle.record.specs.declared.Refusal.{Refusal}
 use Rattle.record.specs.declared.Token.{Token}
 use Rattle.reading.specs.Run.{also, doneBy, put, runFromWith, runWith, shiftWhat, stepBy, stepInWith, stepWith, stopped, turn}
@@ -41,7 +42,7 @@ step-by : (shift limit : ℕ) (t : Tokenizer) (x : Call) → stepBy shift limit 
 step-by shift limit t x = go (ltb limit (t .count + x .advances))
   where
     after : What → Tokenizer
-    after w = record { at = x .at; count = t .count + x .advances; done = doneBy w }
+    after w = record { at = x .at; count = t .count + x .advances; done = doneBy w; reading = t .reading }
 
     go : (b : Bool)
         → cond b (record { what = Error (refusal WorkLimit (t .at + shift)); next = rustTokenizer t; «gap_depth» = 0 })
@@ -50,14 +51,14 @@ step-by shift limit t x = go (ltb limit (t .count + x .advances))
     go true = refl
     go false = rw (shifted shift (x .what), done (shiftWhat shift (x .what)))
 
-module _ (old new : List ℕ → ℕ → Call) (mapped : (cs : List ℕ) (at : ℕ) → old cs at ≡ rustCall (new cs at)) (s : List ℕ) (shift limit : ℕ) where
+module _ (old new : Reading → List ℕ → ℕ → Call) (mapped : (rd : Reading) (cs : List ℕ) (at : ℕ) → old rd cs at ≡ rustCall (new rd cs at)) (s : List ℕ) (shift limit : ℕ) where
   -- one step
   pub step-mapped : (t : Tokenizer) → stepWith old s shift limit (rustTokenizer t) ≡ rustStepped (stepWith new s shift limit t)
   unfolding stepWith
   step-mapped t = go (t .done)
     where
       go : (d : Outcome) → stepInWith old (rustOutcome d) s shift limit (rustTokenizer t) ≡ rustStepped (stepInWith new d s shift limit t)
-      go Running = rw (mapped (chars (drop (t .at) s)) (t .at)) (step-by shift limit t (new (chars (drop (t .at) s)) (t .at)))
+      go Running = rw (mapped (t .reading) (chars (drop (t .at) s)) (t .at)) (step-by shift limit t (new (t .reading) (chars (drop (t .at) s)) (t .at)))
       go Ended = refl
       go (Refused r) = refl
 

@@ -1,4 +1,4 @@
--- ONE CALL AS IT WAS before 02, E3: half a symbol and a character that starts nothing are both the Rust's `UnrecognizedToken`. Demand 2 speaks of this reading. The
+-- ONE CALL AS IT WAS before 02, E3: half a symbol and a character that starts nothing are both the Rust's `UnrecognizedToken`. Demand 2 speaks of this definition, in the old reading. The
 -- definitions are those that reach such an answer, as they stood in reading/specs; every other reader is reading's own.
 use Prim.Native.Nat.{_+_, ℕ}
 use mathlib.Core.Bool.{cond}
@@ -10,6 +10,7 @@ use Rattle.utf8.specs.Utf8.{widthOf}
 use Rattle.unicode.specs.Identifier.{isIdentifierStart}
 use Rattle.record.specs.declared.Code.the-variants.{UnrecognizedToken, UnterminatedCode}
 use Rattle.record.specs.declared.Kind.the-variants.{DotDot, Equals, EqualsEquals, EqualsGreaterThanCode, EqualsGreaterThanLookahead, EqualsGreaterThanLookbehind, EqualsGreaterThanQuestionCode, Lookahead, Lookbehind, MinusGreaterThan, TildeTilde}
+use Rattle.record.specs.declared.Reading.{Reading}
 use Rattle.scan.specs.IfNext.{ifNext}
 use Rattle.scan.specs.declared.Skip.{Skip}
 use Rattle.scan.specs.declared.Skip.the-variants.{Lost, Past}
@@ -49,22 +50,22 @@ arrowLook o cs at =
     ifNext 'L cs (plain EqualsGreaterThanLookahead o (at + 1) 1) (ifNext 'R cs (plain EqualsGreaterThanLookbehind o (at + 1) 1) (half o at))
 
 -- after =>. 01: "`=>` at the end of text is 8"
-unfoldable pub rightArrow : ℕ → List ℕ → ℕ → Call
-rightArrow o [] at = refuse UnterminatedCode o at 0
-rightArrow o (c ∷ cs) at =
+unfoldable pub rightArrow : Reading → ℕ → List ℕ → ℕ → Call
+rightArrow rd o [] at = refuse UnterminatedCode o at 0
+rightArrow rd o (c ∷ cs) at =
     cond (eqb c 'at) (more 1 (arrowLook o cs (at + widthOf c)))
-    (cond (eqb c '?) (more 1 (arrowCode EqualsGreaterThanQuestionCode o cs (at + widthOf c))) (arrowCode EqualsGreaterThanCode o (c ∷ cs) at))
+    (cond (eqb c '?) (more 1 (arrowCode rd EqualsGreaterThanQuestionCode o cs (at + widthOf c))) (arrowCode rd EqualsGreaterThanCode o (c ∷ cs) at))
 
-unfoldable pub equals : ℕ → List ℕ → ℕ → Call
-equals o cs at = ifNext '= cs (plain EqualsEquals o (at + 1) 1) (ifNext '> cs (more 1 (rightArrow o (drop 1 cs) (at + 1))) (plain Equals o at 0))
+unfoldable pub equals : Reading → ℕ → List ℕ → ℕ → Call
+equals rd o cs at = ifNext '= cs (plain EqualsEquals o (at + 1) 1) (ifNext '> cs (more 1 (rightArrow rd o (drop 1 cs) (at + 1))) (plain Equals o at 0))
 
 -- by the first character c at o; the characters cs stand at next
-unfoldable pub starts : ℕ → List ℕ → ℕ → ℕ → Call
-starts c cs o next =
+unfoldable pub starts : Reading → ℕ → List ℕ → ℕ → ℕ → Call
+starts rd c cs o next =
     cond (eqb c '!) (more 1 (bang o cs next))
     (cond (eqb c ':) (more 1 (colon o cs next))
     (cond (eqb c 'dot) (more 1 (dot o cs next))
-    (cond (eqb c '=) (more 1 (equals o cs next))
+    (cond (eqb c '=) (more 1 (equals rd o cs next))
     (cond (eqb c 'at) (more 1 (look o cs next))
     (cond (eqb c '~) (more 1 (tilde o cs next))
     (cond (eqb c 'backtick) (more 1 (escape o cs next))
@@ -72,20 +73,20 @@ starts c cs o next =
     (cond (eqb c 'dquote) (more 1 (stringLiteral o cs next))
     (cond (eqb c '/) (more 1 (half o next))
     (cond (eqb c '-) (more 1 (minus o cs next))
-    (cond (eqb c 'r) (more 1 (rWord (c ∷ cs) o cs next))
-    (cond (isIdentifierStart c) (more 1 (identifierish (c ∷ cs) o cs next)) (stray o)))))))))))))
+    (cond (eqb c 'r) (more 1 (rWord rd (c ∷ cs) o cs next))
+    (cond (isIdentifierStart c) (more 1 (identifierish rd (c ∷ cs) o cs next)) (stray o)))))))))))))
 
-unfoldable pub token : ℕ → List ℕ → ℕ → ℕ → Call
-token c cs o next = cond (eqb c '#) (more 1 (hash o cs next)) (single singles c o next (starts c cs o next))
+unfoldable pub token : Reading → ℕ → List ℕ → ℕ → ℕ → Call
+token rd c cs o next = cond (eqb c '#) (more 1 (hash rd o cs next)) (single singles c o next (starts rd c cs o next))
 
-unfoldable pub tokenOrEnd : List ℕ → ℕ → Call
-tokenOrEnd [] o = record { what = End; at = o; advances = 0; «gap_depth» = 0; «code_depth» = 0 }
-tokenOrEnd (c ∷ cs) o = token c cs o (o + widthOf c)
+unfoldable pub tokenOrEnd : Reading → List ℕ → ℕ → Call
+tokenOrEnd rd [] o = record { what = End; at = o; advances = 0; «gap_depth» = 0; «code_depth» = 0 }
+tokenOrEnd rd (c ∷ cs) o = token rd c cs o (o + widthOf c)
 
 -- (the depths are 02's, E4: both tell the same)
-abbrev pub nextBy : List ℕ → Skip → ℕ → Call
-nextBy cs (Past p m) d = told d (more m (tokenOrEnd (drop m cs) p))
-nextBy cs (Lost r p m) d = fail r p m
+abbrev pub nextBy : Reading → List ℕ → Skip → ℕ → Call
+nextBy rd cs (Past p m) d = told d (more m (tokenOrEnd rd (drop m cs) p))
+nextBy rd cs (Lost r p m) d = fail r p m
 
-unfoldable pub next : List ℕ → ℕ → Call
-next cs at = nextBy cs (gap cs at) (gapDepth cs at)
+unfoldable pub next : Reading → List ℕ → ℕ → Call
+next rd cs at = nextBy rd cs (gap cs at) (gapDepth cs at)

@@ -14,6 +14,7 @@ use Rattle.utf8.specs.declared.Sight.{Sight}
 use Rattle.utf8.specs.declared.Sight.the-variants.{Char, End}
 use Rattle.record.specs.declared.Kind.{Kind}
 use Rattle.record.specs.declared.Kind.the-variants.{Underscore}
+use Rattle.record.specs.declared.Reading.{Reading}
 use Rattle.scan.specs.Until.{left}
 use Rattle.reading.specs.Answers.{plain}
 use Rattle.reading.specs.Steps.{spells-end, spells-on}
@@ -179,8 +180,8 @@ long-none : (n : ℕ) → (n ≡ 2 → ⊥) → (n ≡ 3 → ⊥) → (n ≡ 4 �
 unfolding longAs keywords
 long-none n h2 h3 h4 h5 h6 h7 = simp (ne-eqb n 2 h2, ne-eqb n 3 h3, ne-eqb n 4 h4, ne-eqb n 5 h5, ne-eqb n 6 h6, ne-eqb n 7 h7)
 
--- a word by its length n
-module _ (s : List ℕ) (o p : ℕ) where
+-- a word by its length n, in every reading
+module _ (rd : Reading) (s : List ℕ) (o p : ℕ) where
   not-1 : (p ≡ o + 1 → ⊥) → spells underscore (left s o) o p ≡ false
   not-1 h = spells-not underscore refl (left s o) o p h
 
@@ -193,21 +194,21 @@ module _ (s : List ℕ) (o p : ℕ) where
   long : (n : ℕ) → p - o ≡ n → keywordToken keywords (left s o) o (left s p) p ≡ keywordToken (longAs n keywords) (left s o) o (left s p) p
   long n q = rw q at (keyword-long keywords all-keywords (left s o) o (left s p) p)
 
-  neither : (n : ℕ) → p - o ≡ n → (p ≡ o + 1 → ⊥) → (p ≡ o + 3 → ⊥) → wordToken (left s o) o (left s p) p ≡ keywordToken (longAs n keywords) (left s o) o (left s p) p
+  neither : (n : ℕ) → p - o ≡ n → (p ≡ o + 1 → ⊥) → (p ≡ o + 3 → ⊥) → wordToken rd (left s o) o (left s p) p ≡ keywordToken (longAs n keywords) (left s o) o (left s p) p
   unfolding wordToken
   neither n q h1 h3 = rw (not-1 h1, not-hashed h3, not-use h3) (long n q)
 
-  pub word-long : (n : ℕ) → p ≡ o + n → eqb n 1 ≡ false → eqb n 3 ≡ false → wordToken (left s o) o (left s p) p ≡ keywordToken (longAs n keywords) (left s o) o (left s p) p
+  pub word-long : (n : ℕ) → p ≡ o + n → eqb n 1 ≡ false → eqb n 3 ≡ false → wordToken rd (left s o) o (left s p) p ≡ keywordToken (longAs n keywords) (left s o) o (left s p) p
   word-long n e h1 h3 = neither n (omega arith) (λ z. omega (arith, eqb-false n 1 h1)) (λ z. omega (arith, eqb-false n 3 h3))
 
-  pub word-1 : p ≡ o + 1 → wordToken (left s o) o (left s p) p ≡ cond (spells underscore (left s o) o p) (plain Underscore o p 0) (idToken o (left s p) p)
+  pub word-1 : p ≡ o + 1 → wordToken rd (left s o) o (left s p) p ≡ cond (spells underscore (left s o) o p) (plain Underscore o p 0) (idToken o (left s p) p)
   unfolding wordToken keywordToken longAs keywords
   word-1 e = rw (not-hashed (λ z. omega arith), not-use (λ z. omega arith), long 1 (omega arith))
 
   pub word-3 : p ≡ o + 3
-      → wordToken (left s o) o (left s p) p
+      → wordToken rd (left s o) o (left s p) p
       ≡ cond (spells hashedUnderscore (left s o) o p) (plain Underscore o p 0)
-      (cond (spells useWord (left s o) o p) (useToken o (left s p) p) (keywordToken (longAs 3 keywords) (left s o) o (left s p) p))
+      (cond (spells useWord (left s o) o p) (useToken rd o (left s p) p) (keywordToken (longAs 3 keywords) (left s o) o (left s p) p))
   unfolding wordToken
   word-3 e = rw (not-1 (λ z. omega arith), long 3 (omega arith))
 
@@ -216,15 +217,15 @@ module _ (s : List ℕ) (o p : ℕ) where
 
   -- no keyword has another length, or ends before it starts, or beyond the text
   pub word-none : (p - o ≡ 1 → ⊥) → (p - o ≡ 2 → ⊥) → (p - o ≡ 3 → ⊥) → (p - o ≡ 4 → ⊥) → (p - o ≡ 5 → ⊥) → (p - o ≡ 6 → ⊥) → (p - o ≡ 7 → ⊥)
-      → wordToken (left s o) o (left s p) p ≡ idToken o (left s p) p
+      → wordToken rd (left s o) o (left s p) p ≡ idToken o (left s p) p
   unfolding keywordToken
   word-none h1 h2 h3 h4 h5 h6 h7 = neither (p - o) refl (λ z. h1 (less 1 z)) (λ z. h3 (less 3 z)) ∙ rw (long-none (p - o) h2 h3 h4 h5 h6 h7)
 
-  pub word-before : p < o → wordToken (left s o) o (left s p) p ≡ idToken o (left s p) p
+  pub word-before : p < o → wordToken rd (left s o) o (left s p) p ≡ idToken o (left s p) p
   unfolding keywordToken longAs keywords
   word-before h = neither 0 (omega arith) (λ z. omega arith) (λ z. omega arith)
 
-  pub word-out : length s < p → wordToken (left s o) o (left s p) p ≡ idToken o (left s p) p
+  pub word-out : length s < p → wordToken rd (left s o) o (left s p) p ≡ idToken o (left s p) p
   unfolding wordToken
   word-out h =
       rw (spells-out underscore s (omega arith) o p h, spells-out hashedUnderscore s (omega arith) o p h, spells-out useWord s (omega arith) o p h)

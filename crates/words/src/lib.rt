@@ -3,6 +3,7 @@ pub mod quotes;
 
 use reading::Call;
 use record::Kind;
+use record::Reading;
 use scan::Deep;
 use scan::Skip;
 use utf8::signs;
@@ -10,6 +11,7 @@ ghost use Prim.Native.Nat.{_+_, _<_, _≤_};
 ghost use mathlib.Core.List.{[], _∷_};
 ghost use mathlib.Core.Path.{_≡_};
 ghost use lib.ListN.{length};
+ghost use Rattle.record.specs.declared.Reading.{Reading};
 ghost use Rattle.scan.specs.Until.{left};
 ghost use Rattle.reading.specs.Words.{spells, idToken, codeToken, useToken, wordToken};
 
@@ -95,16 +97,16 @@ pub fn code_token(kind: Kind, o: usize, from: usize, x: Deep) -> Call
     }
 }
 
-fn use_token(s: &[u8], o: usize, p: usize) -> Call
-    ensures { λ r. ⌜ r ≡ useToken o (left (now (s .entry)) p) p ⌝ }
+fn use_token(s: &[u8], rd: Reading, o: usize, p: usize) -> Call
+    ensures { λ r. ⌜ r ≡ useToken rd o (left (now (s .entry)) p) p ⌝ }
 {
-    code_token(Kind::Use, o, p, code::code(s, p, o))
+    code_token(Kind::Use, o, p, code::code(s, rd, p, o))
 }
 
 // The words that are looked for, by their length.
 fn word_1(s: &[u8], o: usize, p: usize) -> Call
     requires { ⌜ (p ≡ o + 1) × (p ≤ length (now s)) ⌝ }
-    ensures { λ r. ⌜ r ≡ wordToken (left (now (s .entry)) o) o (left (now (s .entry)) p) p ⌝ }
+    ensures { λ r. ⌜ ((rd : Reading) → r ≡ wordToken rd (left (now (s .entry)) o) o (left (now (s .entry)) p) p) ⌝ }
 {
     if one(s, o, p, b'_') {
         return reading::plain(Kind::Underscore, o, p, 0);
@@ -114,7 +116,7 @@ fn word_1(s: &[u8], o: usize, p: usize) -> Call
 
 fn word_2(s: &[u8], o: usize, p: usize) -> Call
     requires { ⌜ (p ≡ o + 2) × (p ≤ length (now s)) ⌝ }
-    ensures { λ r. ⌜ r ≡ wordToken (left (now (s .entry)) o) o (left (now (s .entry)) p) p ⌝ }
+    ensures { λ r. ⌜ ((rd : Reading) → r ≡ wordToken rd (left (now (s .entry)) o) o (left (now (s .entry)) p) p) ⌝ }
 {
     if two(s, o, p, b'i', b'f') {
         return reading::plain(Kind::If, o, p, 0);
@@ -125,15 +127,15 @@ fn word_2(s: &[u8], o: usize, p: usize) -> Call
     id_token(s, o, p)
 }
 
-fn word_3(s: &[u8], o: usize, p: usize) -> Call
+fn word_3(s: &[u8], rd: Reading, o: usize, p: usize) -> Call
     requires { ⌜ (p ≡ o + 3) × (p ≤ length (now s)) ⌝ }
-    ensures { λ r. ⌜ r ≡ wordToken (left (now (s .entry)) o) o (left (now (s .entry)) p) p ⌝ }
+    ensures { λ r. ⌜ r ≡ wordToken rd (left (now (s .entry)) o) o (left (now (s .entry)) p) p ⌝ }
 {
     if three(s, o, p, b'r', b'#', b'_') {
         return reading::plain(Kind::Underscore, o, p, 0);
     }
     if three(s, o, p, b'u', b's', b'e') {
-        return use_token(s, o, p);
+        return use_token(s, rd, o, p);
     }
     if three(s, o, p, b'm', b'u', b't') {
         return reading::plain(Kind::Mut, o, p, 0);
@@ -152,7 +154,7 @@ fn word_3(s: &[u8], o: usize, p: usize) -> Call
 
 fn word_4(s: &[u8], o: usize, p: usize) -> Call
     requires { ⌜ (p ≡ o + 4) × (p ≤ length (now s)) ⌝ }
-    ensures { λ r. ⌜ r ≡ wordToken (left (now (s .entry)) o) o (left (now (s .entry)) p) p ⌝ }
+    ensures { λ r. ⌜ ((rd : Reading) → r ≡ wordToken rd (left (now (s .entry)) o) o (left (now (s .entry)) p) p) ⌝ }
 {
     if four(s, o, p, b'e', b'n', b'u', b'm') {
         return reading::plain(Kind::Enum, o, p, 0);
@@ -168,7 +170,7 @@ fn word_4(s: &[u8], o: usize, p: usize) -> Call
 
 fn word_5(s: &[u8], o: usize, p: usize) -> Call
     requires { ⌜ (p ≡ o + 5) × (p ≤ length (now s)) ⌝ }
-    ensures { λ r. ⌜ r ≡ wordToken (left (now (s .entry)) o) o (left (now (s .entry)) p) p ⌝ }
+    ensures { λ r. ⌜ ((rd : Reading) → r ≡ wordToken rd (left (now (s .entry)) o) o (left (now (s .entry)) p) p) ⌝ }
 {
     if five(s, o, p, b'm', b'a', b't', b'c', b'h') {
         return reading::plain(Kind::Match, o, p, 0);
@@ -181,7 +183,7 @@ fn word_5(s: &[u8], o: usize, p: usize) -> Call
 
 fn word_6(s: &[u8], o: usize, p: usize) -> Call
     requires { ⌜ (p ≡ o + 6) × (p ≤ length (now s)) ⌝ }
-    ensures { λ r. ⌜ r ≡ wordToken (left (now (s .entry)) o) o (left (now (s .entry)) p) p ⌝ }
+    ensures { λ r. ⌜ ((rd : Reading) → r ≡ wordToken rd (left (now (s .entry)) o) o (left (now (s .entry)) p) p) ⌝ }
 {
     if six(s, o, p, b'e', b'x', b't', b'e', b'r', b'n') {
         return reading::plain(Kind::Extern, o, p, 0);
@@ -191,7 +193,7 @@ fn word_6(s: &[u8], o: usize, p: usize) -> Call
 
 fn word_7(s: &[u8], o: usize, p: usize) -> Call
     requires { ⌜ (p ≡ o + 7) × (p ≤ length (now s)) ⌝ }
-    ensures { λ r. ⌜ r ≡ wordToken (left (now (s .entry)) o) o (left (now (s .entry)) p) p ⌝ }
+    ensures { λ r. ⌜ ((rd : Reading) → r ≡ wordToken rd (left (now (s .entry)) o) o (left (now (s .entry)) p) p) ⌝ }
 {
     if seven(s, o, p, b'g', b'r', b'a', b'm', b'm', b'a', b'r') {
         return reading::plain(Kind::Grammar, o, p, 0);
@@ -201,8 +203,8 @@ fn word_7(s: &[u8], o: usize, p: usize) -> Call
 
 // The word from o to p. One that ends before it starts, or beyond the text, is none of the words that are looked for: the tests by
 // bytes rest on it.
-pub fn word_token(s: &[u8], o: usize, p: usize) -> Call
-    ensures { λ r. ⌜ r ≡ wordToken (left (now (s .entry)) o) o (left (now (s .entry)) p) p ⌝ }
+pub fn word_token(s: &[u8], rd: Reading, o: usize, p: usize) -> Call
+    ensures { λ r. ⌜ r ≡ wordToken rd (left (now (s .entry)) o) o (left (now (s .entry)) p) p ⌝ }
 {
     if p < o {
         return id_token(s, o, p);
@@ -214,7 +216,7 @@ pub fn word_token(s: &[u8], o: usize, p: usize) -> Call
     match n {
         1 => word_1(s, o, p),
         2 => word_2(s, o, p),
-        3 => word_3(s, o, p),
+        3 => word_3(s, rd, o, p),
         4 => word_4(s, o, p),
         5 => word_5(s, o, p),
         6 => word_6(s, o, p),

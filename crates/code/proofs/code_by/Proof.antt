@@ -20,23 +20,23 @@ use Rattle.code.proofs.code_by.Statement.{statement}
 use Rattle.code.proofs.code_by.Tie as tie
 
 abbrev Inv-loop : tie.InvT-loop
-Inv-loop stops s at start p₀ n₀ b₀ deep₀ p n b deep =
-    (n + at ≤ p) × (b ≤ n) × (walkFrom codeTurn (codeLast start) 0 (chars (drop p s)) b p n ≡ codeEnd start (chars (drop at s)) at)
-    × (depthFrom codeTurn 0 (chars (drop p s)) b p deep ≡ codeDepth (chars (drop at s)) at)
+Inv-loop stops s rd at start p₀ n₀ b₀ deep₀ p n b deep =
+    (n + at ≤ p) × (b ≤ n) × (walkFrom (codeTurn rd) (codeLast start) 0 (chars (drop p s)) b p n ≡ codeEnd rd start (chars (drop at s)) at)
+    × (depthFrom (codeTurn rd) 0 (chars (drop p s)) b p deep ≡ codeDepth rd (chars (drop at s)) at)
 
 abbrev μ-loop : tie.MeasureT-loop
-μ-loop stops s at start p₀ n₀ b₀ deep₀ p n b deep = length s - p
+μ-loop stops s rd at start p₀ n₀ b₀ deep₀ p n b deep = length s - p
 
 -- after the run of a turn
 ran : (c : tie.After-code-run Inv-loop μ-loop)
     → (c .before .loop .p ≤ c .code-run .result)
-    × (walkFrom codeTurn (codeLast (c .before .before .before .before .args .start)) 0 (chars (drop (c .code-run .result) (c .before .before .before .before .args .s .now))) (c .before .loop .b) (c .code-run .result) (c .before .loop .n + (c .code-run .result - c .before .loop .p))
-    ≡ codeEnd (c .before .before .before .before .args .start) (chars (drop (c .before .before .before .before .args .at) (c .before .before .before .before .args .s .now))) (c .before .before .before .before .args .at))
-    × (depthFrom codeTurn 0 (chars (drop (c .code-run .result) (c .before .before .before .before .args .s .now))) (c .before .loop .b) (c .code-run .result) (c .before .loop .deep)
-    ≡ codeDepth (chars (drop (c .before .before .before .before .args .at) (c .before .before .before .before .args .s .now))) (c .before .before .before .before .args .at))
+    × (walkFrom (codeTurn (c .before .before .before .before .args .rd)) (codeLast (c .before .before .before .before .args .start)) 0 (chars (drop (c .code-run .result) (c .before .before .before .before .args .s .now))) (c .before .loop .b) (c .code-run .result) (c .before .loop .n + (c .code-run .result - c .before .loop .p))
+    ≡ codeEnd (c .before .before .before .before .args .rd) (c .before .before .before .before .args .start) (chars (drop (c .before .before .before .before .args .at) (c .before .before .before .before .args .s .now))) (c .before .before .before .before .args .at))
+    × (depthFrom (codeTurn (c .before .before .before .before .args .rd)) 0 (chars (drop (c .code-run .result) (c .before .before .before .before .args .s .now))) (c .before .loop .b) (c .code-run .result) (c .before .loop .deep)
+    ≡ codeDepth (c .before .before .before .before .args .rd) (chars (drop (c .before .before .before .before .args .at) (c .before .before .before .before .args .s .now))) (c .before .before .before .before .args .at))
 ran c =
     let e = rw (c .before .before .before .before .pre) at (c .code-run .ensures) in
-    (omega arith, walk-run (codeLast (c .before .before .before .before .args .start)) (c .before .before .before .before .args .s .now) (c .before .loop .b) (c .before .loop .p) (c .code-run .result) (c .before .loop .n) e ∙ c .before .loop .inv .2, depth-run (c .before .before .before .before .args .s .now) (c .before .loop .b) (c .before .loop .deep) (c .before .loop .p) (c .code-run .result) e ∙ c .before .loop .inv .3)
+    (omega arith, walk-run _ (codeLast (c .before .before .before .before .args .start)) (c .before .before .before .before .args .s .now) (c .before .loop .b) (c .before .loop .p) (c .code-run .result) (c .before .loop .n) e ∙ c .before .loop .inv .2, depth-run _ (c .before .before .before .before .args .s .now) (c .before .loop .b) (c .before .loop .deep) (c .before .loop .p) (c .code-run .result) e ∙ c .before .loop .inv .3)
 
 -- a turn's slice, place, character and width
 abbrev S : tie.After-known-told Inv-loop μ-loop → List ℕ
@@ -58,12 +58,12 @@ here c = seen _ _ _ _ (sym (c .before .before .before .char-at .ensures) ∙ c .
 far : (c : tie.After-known-told3 Inv-loop μ-loop)
     → Lands (S (c .before .before .before .before)) (P (c .before .before .before .before) + W (c .before .before .before .before)) (c .before .what2 .given .0 .1 .0) (c .before .what2 .given .0 .0) × (c .before .what2 .given .0 .1 .1 .0 ≤ c .before .before .before .before .before .before .before .before .before .loop .b + 1)
 far c =
-    let g = code-pass _ _ _ _ _ _ _ _ (sym (c .before .before .before .turn .ensures .0) ∙ c .before .what2 .given .1) in
+    let g = code-pass _ _ _ _ _ _ _ _ _ (sym (c .before .before .before .turn .ensures .0) ∙ c .before .what2 .given .1) in
     (lands _ _ _ _ (g .0), g .1)
 
 -- where a turn that fails leads
 fails : (c : tie.After-known-told2 Inv-loop μ-loop) → Lands (S (c .before .before .before .before)) (P (c .before .before .before .before) + W (c .before .before .before .before)) (c .before .what .given .0 .1 .1 .0) (c .before .what .given .0 .1 .0)
-fails c = lands _ _ _ _ (code-fail _ _ _ _ _ _ _ _ (sym (c .before .before .before .turn .ensures .0) ∙ c .before .what .given .1))
+fails c = lands _ _ _ _ (code-fail _ _ _ _ _ _ _ _ _ (sym (c .before .before .before .turn .ensures .0) ∙ c .before .what .given .1))
 
 loop-holds : tie.Need-loop-holds Inv-loop μ-loop
 loop-holds c = (omega arith, omega arith, refl, refl)
@@ -97,23 +97,23 @@ returns c =
     let h = here (c .before .before .before) in
     let e = sym (c .before .before .turn .ensures .0) ∙ c .enum-told .given .1 in
     let r = ran (c .before .before .before .before .before .before .before) in
-    (sym (walk-stop codeTurn _ h _ _ e) ∙ r .1, sym (depth-stop codeTurn h _ _ e) ∙ r .2)
+    (sym (walk-stop (codeTurn _) _ h _ _ e) ∙ r .1, sym (depth-stop (codeTurn _) h _ _ e) ∙ r .2)
 
 enum-known-what : tie.Need-enum-known-what Inv-loop μ-loop
 enum-known-what c = search needs
 
-add-t24 : tie.Need-add-t24 Inv-loop μ-loop
-add-t24 c = omega (arith, here (c .before .before .before .before), ran (c .before .before .before .before .before .before .before .before) .0)
-
 add-t25 : tie.Need-add-t25 Inv-loop μ-loop
-add-t25 c = let h = here (c .before .before .before .before) in let f = fails c in omega (arith, f .room (h .room), f .gone, ran (c .before .before .before .before .before .before .before .before) .0)
+add-t25 c = omega (arith, here (c .before .before .before .before), ran (c .before .before .before .before .before .before .before .before) .0)
+
+add-t26 : tie.Need-add-t26 Inv-loop μ-loop
+add-t26 c = let h = here (c .before .before .before .before) in let f = fails c in omega (arith, f .room (h .room), f .gone, ran (c .before .before .before .before .before .before .before .before) .0)
 
 returns-2 : tie.Need-returns-2 Inv-loop μ-loop
 returns-2 c =
     let h = here (c .before .before .before .before) in
     let e = sym (c .before .before .before .turn .ensures .0) ∙ c .before .what .given .1 in
     let r = ran (c .before .before .before .before .before .before .before .before) in
-    (sym (walk-fail codeTurn _ h _ _ e) ∙ r .1, sym (depth-fail codeTurn h _ _ e) ∙ r .2)
+    (sym (walk-fail (codeTurn _) _ h _ _ e) ∙ r .1, sym (depth-fail (codeTurn _) h _ _ e) ∙ r .2)
 
 enum-known-what-2 : tie.Need-enum-known-what-2 Inv-loop μ-loop
 enum-known-what-2 c = search needs
@@ -141,8 +141,8 @@ loop-again c =
     let k = r .0 in (
       omega arith,
       omega arith,
-      sym (walk-pass codeTurn _ h _ _ e (f .0)) ∙ r .1,
-      ap (depthFrom codeTurn 0 _ _ _) (c .deeper .ensures ∙ ap (deeper (l .deep)) (c .before .before .before .before .turn .ensures .1)) ∙ sym (depth-pass codeTurn h _ (l .deep) e (f .0)) ∙ r .2,
+      sym (walk-pass (codeTurn _) _ h _ _ e (f .0)) ∙ r .1,
+      ap (depthFrom (codeTurn _) 0 _ _ _) (c .deeper .ensures ∙ ap (deeper (l .deep)) (c .before .before .before .before .turn .ensures .1)) ∙ sym (depth-pass (codeTurn _) h _ (l .deep) e (f .0)) ∙ r .2,
     )
 
 enum-told-2 : tie.Need-enum-told-2 Inv-loop μ-loop
@@ -151,16 +151,16 @@ enum-told-2 c = search needs
 -- what the end of the text answers
 ends : (c : tie.After-enum-told2 Inv-loop μ-loop)
     → codeLast (c .before .before .before .before .before .before .before .args .start) (c .before .before .before .before .loop .b) (c .before .before .before .code-run .result) (c .before .before .before .before .loop .n + (c .before .before .before .code-run .result - c .before .before .before .before .loop .p))
-    ≡ codeEnd (c .before .before .before .before .before .before .before .args .start) (chars (drop (c .before .before .before .before .before .before .before .args .at) (c .before .before .before .before .before .before .before .args .s .now))) (c .before .before .before .before .before .before .before .args .at)
+    ≡ codeEnd (c .before .before .before .before .before .before .before .args .rd) (c .before .before .before .before .before .before .before .args .start) (chars (drop (c .before .before .before .before .before .before .before .args .at) (c .before .before .before .before .before .before .before .args .s .now))) (c .before .before .before .before .before .before .before .args .at)
 ends c =
-    sym (walk-end codeTurn _ (ended _ _ (sym (c .before .before .char-at .ensures) ∙ c .enum-told2 .given .1)) _ _)
+    sym (walk-end (codeTurn _) _ (ended _ _ (sym (c .before .before .char-at .ensures) ∙ c .enum-told2 .given .1)) _ _)
     ∙ ran (c .before .before .before) .1
 
 deep-ends : (c : tie.After-enum-told2 Inv-loop μ-loop)
     → c .before .before .before .before .loop .deep
-    ≡ codeDepth (chars (drop (c .before .before .before .before .before .before .before .args .at) (c .before .before .before .before .before .before .before .args .s .now))) (c .before .before .before .before .before .before .before .args .at)
+    ≡ codeDepth (c .before .before .before .before .before .before .before .args .rd) (chars (drop (c .before .before .before .before .before .before .before .args .at) (c .before .before .before .before .before .before .before .args .s .now))) (c .before .before .before .before .before .before .before .args .at)
 deep-ends c =
-    sym (depth-end codeTurn (ended _ _ (sym (c .before .before .char-at .ensures) ∙ c .enum-told2 .given .1)) _ _)
+    sym (depth-end (codeTurn _) (ended _ _ (sym (c .before .before .char-at .ensures) ∙ c .enum-told2 .given .1)) _ _)
     ∙ ran (c .before .before .before) .2
 
 returns-3 : tie.Need-returns-3 Inv-loop μ-loop
@@ -189,8 +189,8 @@ code-by-spec =
     enum-told
     returns
     enum-known-what
-    add-t24
     add-t25
+    add-t26
     returns-2
     enum-known-what-2
     add-n-2

@@ -48,8 +48,8 @@ returns-3 c = let h = c .to-turn3 .ensures ∙ ap (turnOf _) (c .before .r-skip 
 is-open-requires : tie.Need-is-open-requires
 is-open-requires c κs = search needs
 
-add-t11 : tie.Need-add-t11
-add-t11 c = search needs
+add-t12 : tie.Need-add-t12
+add-t12 c = search needs
 
 returns-4 : tie.Need-returns-4
 unfolding codeTurn
@@ -58,8 +58,8 @@ returns-4 c = search flags depth 12
 is-close-requires : tie.Need-is-close-requires
 is-close-requires c κs = search needs
 
-sub-t13 : tie.Need-sub-t13
-sub-t13 c = search needs
+sub-t14 : tie.Need-sub-t14
+sub-t14 c = search needs
 
 returns-5 : tie.Need-returns-5
 unfolding codeTurn
@@ -102,10 +102,10 @@ code-turn-spec =
     to-turn-requires-3
     returns-3
     is-open-requires
-    add-t11
+    add-t12
     returns-4
     is-close-requires
-    sub-t13
+    sub-t14
     returns-5
     returns-6
     returns-7

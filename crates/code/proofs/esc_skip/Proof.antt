@@ -71,10 +71,10 @@ lost-requires-2 : tie.Need-lost-requires-2
 lost-requires-2 c κs = search needs
 
 returns : tie.Need-returns
-returns c = let h = here (c .before .before .before .before .before) in let l = far (c .before) in rw (h .next, esc-passed _ _ _ _, ← (h .width)) ((rw (← (l .rest)) at (c .quote-end .ensures)) ∙ ap (escPassed _ _) (sym (c .before .before .place .given .1) ∙ c .before .before .before .before .take-until .ensures))
+returns c = let h = here (c .before .before .before .before .before) in let l = far (c .before) in rw (h .next, esc-passed _ _ _ _ _, ← (h .width)) ((rw (← (l .rest)) at (c .quote-end .ensures)) ∙ ap (escPassed _ _ _) (sym (c .before .before .place .given .1) ∙ c .before .before .before .before .take-until .ensures))
 
 returns-2 : tie.Need-returns-2
-returns-2 c = let h = here (c .before .before .before .before .before) in rw (h .next, esc-passed _ _ _ _, ← (h .width)) (c .lost .ensures ∙ ap (escPassed _ (chars (drop (c .before .before .before .before .before .before .before .before .before .before .args .at + c .before .before .before .before .before .before .width .given .0 .1 .0) (c .before .before .before .before .before .before .before .before .before .before .args .s .now)))) (sym (c .before .before .place2 .given .1) ∙ c .before .before .before .before .take-until .ensures))
+returns-2 c = let h = here (c .before .before .before .before .before) in rw (h .next, esc-passed _ _ _ _ _, ← (h .width)) (c .lost .ensures ∙ ap (escPassed _ _ (chars (drop (c .before .before .before .before .before .before .before .before .before .before .args .at + c .before .before .before .before .before .before .width .given .0 .1 .0) (c .before .before .before .before .before .before .before .before .before .before .args .s .now)))) (sym (c .before .before .place2 .given .1) ∙ c .before .before .before .before .take-until .ensures))
 
 returns-3 : tie.Need-returns-3
 unfolding escSkip

@@ -33,7 +33,7 @@ body-skip-requires : tie.Need-body-skip-requires
 body-skip-requires c κs = search needs
 
 skip-more-requires : tie.Need-skip-more-requires
-skip-more-requires c κs = omega (arith, (far (c .before)) .within, fits (c .before .before .before .before .before .before .args .s .now) (c .before .before .before .before .before .before .args .at), sound-fits (c .before .before .before .before .before .before .args .s .now) (c .before .before .place .given .0 .0) (c .body-skip .ensures) (body-sound _ _ _ _))
+skip-more-requires c κs = omega (arith, (far (c .before)) .within, fits (c .before .before .before .before .before .before .args .s .now) (c .before .before .before .before .before .before .args .at), sound-fits (c .before .before .before .before .before .before .args .s .now) (c .before .before .place .given .0 .0) (c .body-skip .ensures) (body-sound _ _ _ _ _))
 
 enum-known-place-2 : tie.Need-enum-known-place-2
 enum-known-place-2 c = search needs
@@ -42,10 +42,10 @@ lost-requires : tie.Need-lost-requires
 lost-requires c κs = search needs
 
 returns : tie.Need-returns
-returns c = let l = far (c .before .before) in c .skip-more .ensures ∙ ap (skipMore _) (rw (← (l .rest)) at (c .before .body-skip .ensures)) ∙ ap (hashPast _ _) (sym (c .before .before .before .place .given .1) ∙ c .before .before .before .before .before .take-until .ensures)
+returns c = let l = far (c .before .before) in c .skip-more .ensures ∙ ap (skipMore _) (rw (← (l .rest)) at (c .before .body-skip .ensures)) ∙ ap (hashPast _ _ _) (sym (c .before .before .before .place .given .1) ∙ c .before .before .before .before .before .take-until .ensures)
 
 returns-2 : tie.Need-returns-2
-returns-2 c = c .lost .ensures ∙ ap (hashPast (c .before .before .before .before .before .before .args .o) (chars (drop (c .before .before .before .before .before .before .args .at) (c .before .before .before .before .before .before .args .s .now)))) (sym (c .before .before .place2 .given .1) ∙ c .before .before .before .before .take-until .ensures)
+returns-2 c = c .lost .ensures ∙ ap (hashPast (c .before .before .before .before .before .before .args .rd) (c .before .before .before .before .before .before .args .o) (chars (drop (c .before .before .before .before .before .before .args .at) (c .before .before .before .before .before .before .args .s .now)))) (sym (c .before .before .place2 .given .1) ∙ c .before .before .before .before .take-until .ensures)
 
 pub hash-skip-spec : {M : Type 1} → statement M
 hash-skip-spec =

@@ -30,7 +30,7 @@ quote-end-requires : tie.Need-quote-end-requires
 quote-end-requires c κs = search needs
 
 returns : tie.Need-returns
-returns c = let h = here (c .before .before) in rw (h .next, one-passed _ _ _ _, ← (h .width)) (search picks)
+returns c = let h = here (c .before .before) in rw (h .next, one-passed _ _ _ _ _, ← (h .width)) (search picks)
 
 enum-told : tie.Need-enum-told
 enum-told c = search needs
@@ -39,7 +39,7 @@ quote-end-requires-2 : tie.Need-quote-end-requires-2
 quote-end-requires-2 c κs = search needs
 
 returns-2 : tie.Need-returns-2
-returns-2 c = let h = here (c .before) in rw (h .next, one-passed _ _ _ _, ← (h .width)) (search picks)
+returns-2 c = let h = here (c .before) in rw (h .next, one-passed _ _ _ _ _, ← (h .width)) (search picks)
 
 returns-3 : tie.Need-returns-3
 unfolding oneSkip

@@ -11,7 +11,7 @@ slash-turn-requires c κs = search needs
 
 returns : tie.Need-returns
 returns c =
-    let h = slash-turns _ _ (c .before .if1 .taken) _ _ _ in
+    let h = slash-turns _ _ _ (c .before .if1 .taken) _ _ _ in
     (c .slash-turn .ensures .0 ∙ sym (h .0), c .slash-turn .ensures .1 ∙ sym (h .1))
 
 code-turn-requires : tie.Need-code-turn-requires

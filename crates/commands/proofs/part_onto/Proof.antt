@@ -6,13 +6,13 @@ use Rattle.commands.proofs.part_onto.Statement.{statement}
 use Rattle.commands.proofs.part_onto.Tie as tie
 
 returns : tie.Need-returns
-returns c = held-none _ _ _ (c .before .before .before .before .args .records .now) _ _ (rw (c .before .size-of .ensures .0) at (c .if1 .taken))
+returns c = held-none _ _ _ (c .before .before .before .before .args .records .now) _ _ (rw (c .before .group-size .ensures .0) at (c .if1 .taken))
 
 chunk-onto-requires : tie.Need-chunk-onto-requires
-chunk-onto-requires c κs = let a = c .before .before .before .before .before .args in held-fits (a .group) (a .count) (length (a .records .now)) (rw (c .before .before .size-of .ensures .0) at (c .before .if1 .left))
+chunk-onto-requires c κs = let a = c .before .before .before .before .before .args in held-fits (a .group) (a .count) (length (a .records .now)) (rw (c .before .before .group-size .ensures .0) at (c .before .if1 .left))
 
 returns-2 : tie.Need-returns-2
-returns-2 c = let a = c .before .before .before .before .before .before .before .before .args in rw (held-all (a .group) (a .part) (a .count) (a .records .now) (rw (c .before .before .before .before .before .size-of .ensures .0) at (c .before .before .before .before .if1 .left))) (c .before .before .chunk-onto .ensures)
+returns-2 c = let a = c .before .before .before .before .before .before .before .before .args in rw (held-all (a .group) (a .part) (a .count) (a .records .now) (rw (c .before .before .before .before .before .group-size .ensures .0) at (c .before .before .before .before .if1 .left))) (c .before .before .chunk-onto .ensures)
 
 pub part-onto-spec : {M : Type 1} → statement M
 part-onto-spec =

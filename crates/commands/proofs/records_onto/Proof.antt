@@ -15,13 +15,13 @@ abbrev μ-loop : tie.MeasureT-loop
 μ-loop out₀ records group count size came₀ i₀ out came i = count - i
 
 mul-record-onto : tie.Need-mul-record-onto Inv-loop μ-loop
-mul-record-onto c = let a = c .before .before .before .before .before .before .args in let f = group-fits (a .group) (c .before .before .loop .i) (a .count) (length (a .records .now)) (c .before .loop-test .taken) (c .before .before .before .before .before .before .pre) in rw (c .before .before .before .size-of .ensures .0) (omega (arith, f))
+mul-record-onto c = let a = c .before .before .before .before .before .before .args in let f = group-fits (a .group) (c .before .before .loop .i) (a .count) (length (a .records .now)) (c .before .loop-test .taken) (c .before .before .before .before .before .before .pre) in rw (c .before .before .before .group-size .ensures .0) (omega (arith, f))
 
 record-onto-requires : tie.Need-record-onto-requires Inv-loop μ-loop
-record-onto-requires c κs = let a = c .before .before .before .before .before .before .args in rw (c .before .before .before .size-of .ensures .0) (group-fits (a .group) (c .before .before .loop .i) (a .count) (length (a .records .now)) (c .before .loop-test .taken) (c .before .before .before .before .before .before .pre))
+record-onto-requires c κs = let a = c .before .before .before .before .before .before .args in rw (c .before .before .before .group-size .ensures .0) (group-fits (a .group) (c .before .before .loop .i) (a .count) (length (a .records .now)) (c .before .loop-test .taken) (c .before .before .before .before .before .before .pre))
 
 loop-again : tie.Need-loop-again Inv-loop μ-loop
-loop-again c = let l = c .before .before .before .before .before .loop in let r = c .before .before .record-onto in (going-on _ _ _ _ _ _ _ _ (l .inv .0) _ _ (c .before .before .before .before .loop-test .taken) (rw (c .before .before .before .before .before .before .size-of .ensures .0) at (r .ensures)), r .kept .0 ∙ l .inv .1)
+loop-again c = let l = c .before .before .before .before .before .loop in let r = c .before .before .record-onto in (going-on _ _ _ _ _ _ _ _ (l .inv .0) _ _ (c .before .before .before .before .loop-test .taken) (rw (c .before .before .before .before .before .before .group-size .ensures .0) at (r .ensures)), r .kept .0 ∙ l .inv .1)
 
 returns : tie.Need-returns Inv-loop μ-loop
 returns c = going-last _ _ _ _ _ _ _ _ (c .before .loop .inv .0) (c .loop-test .left)

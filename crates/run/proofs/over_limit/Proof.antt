@@ -8,8 +8,8 @@ use Rattle.run.proofs.over_limit.Reads as reads
 use Rattle.run.proofs.over_limit.Lts as lts
 use Rattle.run.proofs.halted.Reads as halted-reads
 
-add-t9 : tie.Need-add-t9
-add-t9 c = search needs
+add-t10 : tie.Need-add-t10
+add-t10 c = search needs
 
 halted-requires : tie.Need-halted-requires
 halted-requires c κs = search needs
@@ -18,4 +18,4 @@ returns : tie.Need-returns
 returns c = ap (λ (p : Pending). p .ran) (c .before .halted .ensures)
 
 pub over-limit-spec : {M : Type 1} → statement M
-over-limit-spec = tie.close (tie.spec add-t9 halted-requires returns)
+over-limit-spec = tie.close (tie.spec add-t10 halted-requires returns)

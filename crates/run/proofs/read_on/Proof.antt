@@ -19,8 +19,8 @@ next-unshifted-requires c κs = search needs
 exceeds-requires : tie.Need-exceeds-requires
 exceeds-requires c κs = search needs
 
-add-t15 : tie.Need-add-t15
-add-t15 c = search needs
+add-t16 : tie.Need-add-t16
+add-t16 c = search needs
 
 returns : tie.Need-returns
 returns c = rw (← (c .before .before .next-unshifted .ensures)) (search flags)
@@ -28,8 +28,8 @@ returns c = rw (← (c .before .before .next-unshifted .ensures)) (search flags)
 shift-what-requires : tie.Need-shift-what-requires
 shift-what-requires c κs = rw (c .before .before .next-unshifted .ensures) (call-roomy _ _ (c .before .before .before .before .args .limit) _ (c .before .before .before .before .pre))
 
-add-t18 : tie.Need-add-t18
-add-t18 c = let e = sym (c .before .before .exceeds .ensures) ∙ c .before .if1 .left in omega tests
+add-t19 : tie.Need-add-t19
+add-t19 c = let e = sym (c .before .before .exceeds .ensures) ∙ c .before .if1 .left in omega tests
 
 done-by-requires : tie.Need-done-by-requires
 done-by-requires c κs = search needs
@@ -43,9 +43,9 @@ read-on-spec =
     (tie.spec
     next-unshifted-requires
     exceeds-requires
-    add-t15
+    add-t16
     returns
     shift-what-requires
-    add-t18
+    add-t19
     done-by-requires
     returns-2)

@@ -16,11 +16,11 @@ use Rattle.run.proofs.store_on.Statement.{statement}
 use Rattle.run.proofs.store_on.Tie as tie
 
 abbrev Inv-loop : tie.InvT-loop
-Inv-loop text shift limit records₀ g from counted size room n₀ at₀ count₀ records n at count =
-    (length records ≡ length records₀) × (size ≡ sizeOf g) × (room ≡ length records₀ / sizeOf g) × Asking g text shift limit room (running from counted) records₀ n (running at count) records
+Inv-loop text shift limit records₀ g rd from counted size room n₀ at₀ count₀ records n at count =
+    (length records ≡ length records₀) × (size ≡ sizeOf g) × (room ≡ length records₀ / sizeOf g) × Asking g text shift limit room (running rd from counted) records₀ n (running rd at count) records
 
 abbrev μ-loop : tie.MeasureT-loop
-μ-loop text shift limit records₀ g from counted size room n₀ at₀ count₀ records n at count = room - n
+μ-loop text shift limit records₀ g rd from counted size room n₀ at₀ count₀ records n at count = room - n
 
 -- the call stays under the limit
 under : (c : tie.Else1 Inv-loop μ-loop) → ltb (c .before .before .before .before .before .before .before .args .limit) (c .before .before .before .loop .count + c .before .before .next-unshifted .result .advances) ≡ false
@@ -56,7 +56,7 @@ same-length c = c .before .before .before .before .loop .inv .0
 returns : tie.Need-returns Inv-loop μ-loop
 returns c =
     let l = c .before .before .before .before .loop in
-    rw (← (l .inv .1)) (asking-end _ _ _ _ _ _ _ _ _ _ (l .inv .3) _ (pend-over _ _ _ _ _ _ (c .before .before .before .next-unshifted .ensures) _ _ (sym (c .before .before .exceeds .ensures) ∙ c .before .if1 .taken)) refl (l .inv .2) _ (c .over-limit .ensures))
+    rw (← (l .inv .1)) (asking-end _ _ _ _ _ _ _ _ _ _ (l .inv .3) _ (pend-over _ _ _ _ _ _ _ (c .before .before .before .next-unshifted .ensures) _ _ (sym (c .before .before .exceeds .ensures) ∙ c .before .if1 .taken)) refl (l .inv .2) _ (c .over-limit .ensures))
 
 add-total : tie.Need-add-total Inv-loop μ-loop
 add-total c = let e = under c in omega tests
@@ -65,7 +65,7 @@ enum-known-what : tie.Need-enum-known-what Inv-loop μ-loop
 enum-known-what c = search needs
 
 full-requires : tie.Need-full-requires Inv-loop μ-loop
-full-requires c κs = call-fits _ _ (c .before .before .before .before .before .before .before .before .before .before .before .args .limit) _ _ _ (c .before .before .before .before .before .before .next-unshifted .ensures) (c .before .before .before .before .before .before .before .loop .inv .3 .ready) _ (c .before .before .what .given .1) .0
+full-requires c κs = call-fits _ _ _ (c .before .before .before .before .before .before .before .before .before .before .before .args .limit) _ _ _ (c .before .before .before .before .before .before .next-unshifted .ensures) (c .before .before .before .before .before .before .before .loop .inv .3 .ready) _ (c .before .before .what .given .1) .0
 
 same-length-2 : tie.Need-same-length-2 Inv-loop μ-loop
 same-length-2 c = c .before .before .before .before .before .before .before .before .loop .inv .0
@@ -73,7 +73,7 @@ same-length-2 c = c .before .before .before .before .before .before .before .bef
 returns-2 : tie.Need-returns-2 Inv-loop μ-loop
 returns-2 c =
     let l = c .before .before .before .before .before .before .before .before .loop in
-    rw (← (l .inv .1)) (asking-end _ _ _ _ _ _ _ _ _ _ (l .inv .3) _ (pend-full _ _ _ _ _ _ (c .before .before .before .before .before .before .before .next-unshifted .ensures) _ _ (under (c .before .before .before .before .before)) _ (c .before .before .before .what .given .1) (c .before .if2 .taken)) refl (l .inv .2) _ (c .full .ensures))
+    rw (← (l .inv .1)) (asking-end _ _ _ _ _ _ _ _ _ _ (l .inv .3) _ (pend-full _ _ _ _ _ _ _ (c .before .before .before .before .before .before .before .next-unshifted .ensures) _ _ (under (c .before .before .before .before .before)) _ (c .before .before .before .what .given .1) (c .before .if2 .taken)) refl (l .inv .2) _ (c .full .ensures))
 
 mul-put-group : tie.Need-mul-put-group Inv-loop μ-loop
 mul-put-group c =
@@ -82,7 +82,7 @@ mul-put-group c =
     rw (c .before .before .before .before .before .before .before .before .before .group-size .ensures .0) (omega (arith, f))
 
 shift-token-requires : tie.Need-shift-token-requires Inv-loop μ-loop
-shift-token-requires c κs = call-fits _ _ (c .before .before .before .before .before .before .before .before .before .before .before .before .args .limit) _ _ _ (c .before .before .before .before .before .before .before .next-unshifted .ensures) (c .before .before .before .before .before .before .before .before .loop .inv .3 .ready) _ (c .before .before .before .what .given .1)
+shift-token-requires c κs = call-fits _ _ _ (c .before .before .before .before .before .before .before .before .before .before .before .before .args .limit) _ _ _ (c .before .before .before .before .before .before .before .next-unshifted .ensures) (c .before .before .before .before .before .before .before .before .loop .inv .3 .ready) _ (c .before .before .before .what .given .1)
 
 put-group-requires : tie.Need-put-group-requires Inv-loop μ-loop
 put-group-requires c κs =
@@ -100,14 +100,14 @@ loop-again : tie.Need-loop-again Inv-loop μ-loop
 loop-again c =
     let l = c .before .before .before .before .before .before .before .before .before .before .before .before .loop in
     let f = c .before .before .put-group .ensures in
-    let p = pend-got _ _ _ _ _ _ (c .before .before .before .before .before .before .before .before .before .before .before .next-unshifted .ensures) _ _ (under (c .before .before .before .before .before .before .before .before .before)) _ _ (c .before .before .before .before .before .before .before .what .given .1) (c .before .before .before .shift-token .ensures) (c .before .before .before .before .before .if2 .left) in
+    let p = pend-got _ _ _ _ _ _ _ (c .before .before .before .before .before .before .before .before .before .before .before .next-unshifted .ensures) _ _ (under (c .before .before .before .before .before .before .before .before .before)) _ _ (c .before .before .before .before .before .before .before .what .given .1) (c .before .before .before .shift-token .ensures) (c .before .before .before .before .before .if2 .left) in
     (simp length-sets at (ap length f) ∙ l .inv .0, l .inv .1, l .inv .2, asking-turn _ _ _ _ _ _ _ _ _ _ (l .inv .3) _ p refl _ (rw (← (l .inv .1)) f))
 
 enum-known-what-2 : tie.Need-enum-known-what-2 Inv-loop μ-loop
 enum-known-what-2 c = search needs
 
 lost-requires : tie.Need-lost-requires Inv-loop μ-loop
-lost-requires c κs = call-fits _ _ (c .before .before .before .before .before .before .before .before .before .before .args .limit) _ _ _ (c .before .before .before .before .before .next-unshifted .ensures) (c .before .before .before .before .before .before .loop .inv .3 .ready) _ (c .before .what2 .given .1)
+lost-requires c κs = call-fits _ _ _ (c .before .before .before .before .before .before .before .before .before .before .args .limit) _ _ _ (c .before .before .before .before .before .next-unshifted .ensures) (c .before .before .before .before .before .before .loop .inv .3 .ready) _ (c .before .what2 .given .1)
 
 same-length-3 : tie.Need-same-length-3 Inv-loop μ-loop
 same-length-3 c = c .before .before .before .before .before .before .before .loop .inv .0
@@ -115,7 +115,7 @@ same-length-3 c = c .before .before .before .before .before .before .before .loo
 returns-3 : tie.Need-returns-3 Inv-loop μ-loop
 returns-3 c =
     let l = c .before .before .before .before .before .before .before .loop in
-    rw (← (l .inv .1)) (asking-end _ _ _ _ _ _ _ _ _ _ (l .inv .3) _ (pend-error _ _ _ _ _ _ (c .before .before .before .before .before .before .next-unshifted .ensures) _ _ (under (c .before .before .before .before)) _ (c .before .before .what2 .given .1)) refl (l .inv .2) _ (c .lost .ensures))
+    rw (← (l .inv .1)) (asking-end _ _ _ _ _ _ _ _ _ _ (l .inv .3) _ (pend-error _ _ _ _ _ _ _ (c .before .before .before .before .before .before .next-unshifted .ensures) _ _ (under (c .before .before .before .before)) _ (c .before .before .what2 .given .1)) refl (l .inv .2) _ (c .lost .ensures))
 
 enum-told : tie.Need-enum-told Inv-loop μ-loop
 enum-told c = search needs
@@ -129,7 +129,7 @@ same-length-4 c = c .before .before .before .before .before .before .loop .inv .
 returns-4 : tie.Need-returns-4 Inv-loop μ-loop
 returns-4 c =
     let l = c .before .before .before .before .before .before .loop in
-    rw (← (l .inv .1)) (asking-end _ _ _ _ _ _ _ _ _ _ (l .inv .3) _ (pend-end _ _ _ _ _ _ (c .before .before .before .before .before .next-unshifted .ensures) _ _ (under (c .before .before .before)) (c .before .enum-told .given .1)) refl (l .inv .2) _ (c .at-end .ensures))
+    rw (← (l .inv .1)) (asking-end _ _ _ _ _ _ _ _ _ _ (l .inv .3) _ (pend-end _ _ _ _ _ _ _ (c .before .before .before .before .before .next-unshifted .ensures) _ _ (under (c .before .before .before)) (c .before .enum-told .given .1)) refl (l .inv .2) _ (c .at-end .ensures))
 
 pub store-on-spec : {M : Type 1} → statement M
 store-on-spec =

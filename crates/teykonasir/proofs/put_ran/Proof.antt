@@ -6,8 +6,6 @@ use Rattle.teykonasir.proofs.put_ran.Statement.{statement}
 use Rattle.teykonasir.proofs.put_ran.Tie as tie
 use Rattle.teykonasir.proofs.put_ran.Reads as reads
 use Rattle.teykonasir.proofs.put_ran.Lts as lts
-use Rattle.teykonasir.proofs.how_code.Reads as how-code-reads
-use Rattle.teykonasir.proofs.how_place.Reads as how-place-reads
 use Rattle.teykonasir.proofs.put_four.Reads as put-four-reads
 
 how-code-requires : tie.Need-how-code-requires

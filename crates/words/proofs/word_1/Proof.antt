@@ -12,13 +12,13 @@ plain-requires : tie.Need-plain-requires
 plain-requires c κs = search needs
 
 returns : tie.Need-returns
-returns c = rw (word-1 (c .before .before .before .before .args .s .now) (c .before .before .before .before .args .o) (c .before .before .before .before .args .p) (c .before .before .before .before .pre .0)) (search flags depth 12)
+returns c rd = rw (word-1 rd (c .before .before .before .before .args .s .now) (c .before .before .before .before .args .o) (c .before .before .before .before .args .p) (c .before .before .before .before .pre .0)) (search flags depth 12)
 
 id-token-requires : tie.Need-id-token-requires
 id-token-requires c κs = search needs
 
 returns-2 : tie.Need-returns-2
-returns-2 c = rw (word-1 (c .before .before .before .before .args .s .now) (c .before .before .before .before .args .o) (c .before .before .before .before .args .p) (c .before .before .before .before .pre .0)) (search flags depth 12)
+returns-2 c rd = rw (word-1 rd (c .before .before .before .before .args .s .now) (c .before .before .before .before .args .o) (c .before .before .before .before .args .p) (c .before .before .before .before .pre .0)) (search flags depth 12)
 
 pub word-1-spec : {M : Type 1} → statement M
 word-1-spec = tie.close (tie.spec one-requires plain-requires returns id-token-requires returns-2)

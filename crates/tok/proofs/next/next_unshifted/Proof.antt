@@ -19,7 +19,7 @@ token-or-end-requires : tie.Need-token-or-end-requires
 token-or-end-requires c κs = search needs
 
 more-requires : tie.Need-more-requires
-more-requires c κs = omega (arith, sound-fits (c .before .before .before .before .before .before .args .s .now) (c .before .before .before .before .before .before .args .at) (sym (c .before .before .skip .given .1) ∙ c .before .before .before .before .gap .ensures .0) (gap-sound _ _), token-fits (c .before .before .before .before .before .before .args .s .now) (c .before .before .skip .given .0 .0) (c .token-or-end .ensures))
+more-requires c κs = omega (arith, sound-fits (c .before .before .before .before .before .before .args .s .now) (c .before .before .before .before .before .before .args .at) (sym (c .before .before .skip .given .1) ∙ c .before .before .before .before .gap .ensures .0) (gap-sound _ _), token-fits _ (c .before .before .before .before .before .before .args .s .now) (c .before .before .skip .given .0 .0) (c .token-or-end .ensures))
 
 enum-known-skip-2 : tie.Need-enum-known-skip-2
 enum-known-skip-2 c = search needs
@@ -35,12 +35,12 @@ returns c =
     let s = c .before .before .before .before .before .before .before .before .args .s .now in
     let at = c .before .before .before .before .before .before .before .before .args .at in
     let g = c .before .before .before .before .before .before .gap .ensures in
-    c .told .ensures ∙ rw (g .1) (ap (told _) (c .before .more .ensures ∙ ap (more _) (c .before .before .token-or-end .ensures)) ∙ sym (next-gap s at _ _ (sym (g .0) ∙ c .before .before .before .before .skip .given .1)))
+    c .told .ensures ∙ rw (g .1) (ap (told _) (c .before .more .ensures ∙ ap (more _) (c .before .before .token-or-end .ensures)) ∙ sym (next-gap _ s at _ _ (sym (g .0) ∙ c .before .before .before .before .skip .given .1)))
 
 returns-2 : tie.Need-returns-2
 returns-2 c =
     let a = c .before .before .before .before .before .before .args in
-    c .fail .ensures ∙ sym (next-lost (a .s .now) (a .at) _ _ _ (sym (c .before .before .before .before .gap .ensures .0) ∙ c .before .before .skip2 .given .1))
+    c .fail .ensures ∙ sym (next-lost _ (a .s .now) (a .at) _ _ _ (sym (c .before .before .before .before .gap .ensures .0) ∙ c .before .before .skip2 .given .1))
 
 pub next-unshifted-spec : {M : Type 1} → statement M
 next-unshifted-spec =

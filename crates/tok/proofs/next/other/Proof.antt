@@ -16,7 +16,7 @@ identifierish-requires : tie.Need-identifierish-requires
 identifierish-requires c κs = search needs
 
 more-requires : tie.Need-more-requires
-more-requires c κs = omega (arith, fair-fits (c .before .before .before .before .args .s .now) (c .before .before .before .before .args .next) (c .identifierish .ensures) (identifier-fair _ _ _ _))
+more-requires c κs = omega (arith, fair-fits (c .before .before .before .before .args .s .now) (c .before .before .before .before .args .next) (c .identifierish .ensures) (identifier-fair _ _ _ _ _))
 
 returns : tie.Need-returns
 returns c = let h = c .more .ensures ∙ ap (more 1) (c .before .identifierish .ensures) in search flags

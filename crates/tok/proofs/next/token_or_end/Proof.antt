@@ -26,10 +26,10 @@ enum-told : tie.Need-enum-told
 enum-told c = search needs
 
 returns : tie.Need-returns
-returns c = c .token .ensures ∙ sym (token-on (here (c .before)))
+returns c = c .token .ensures ∙ sym (token-on _ (here (c .before)))
 
 returns-2 : tie.Need-returns-2
-returns-2 c = sym (token-end (ended _ _ (sym (c .before .before .char-at .ensures) ∙ c .enum-told .given .1)))
+returns-2 c = sym (token-end _ (ended _ _ (sym (c .before .before .char-at .ensures) ∙ c .enum-told .given .1)))
 
 pub token-or-end-spec : {M : Type 1} → statement M
 token-or-end-spec =

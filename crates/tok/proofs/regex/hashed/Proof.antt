@@ -32,7 +32,7 @@ more-requires : tie.Need-more-requires
 more-requires c κs = omega (arith, fair-fits (c .before .before .before .before .before .before .before .args .s .now) (c .before .before .before .before .before .before .before .args .at + c .before .before .before .code .given .0 .1 .0) (c .regex-token .ensures) (regex-fair _ _ _ _))
 
 returns : tie.Need-returns
-returns c = let h = c .more .ensures ∙ ap (more 1) (c .before .regex-token .ensures) in rw (hashed-on (left (c .before .before .before .before .before .before .before .before .args .s .now) (c .before .before .before .before .before .before .before .before .args .o)) (c .before .before .before .before .before .before .before .before .args .o) (c .before .before .before .before .before .before .before .before .args .h) (here (c .before .before .before))) (search flags)
+returns c = let h = c .more .ensures ∙ ap (more 1) (c .before .regex-token .ensures) in rw (hashed-on _ (left (c .before .before .before .before .before .before .before .before .args .s .now) (c .before .before .before .before .before .before .before .before .args .o)) (c .before .before .before .before .before .before .before .before .args .o) (c .before .before .before .before .before .before .before .before .args .h) (here (c .before .before .before))) (search flags)
 
 is-identifier-start-requires : tie.Need-is-identifier-start-requires
 is-identifier-start-requires c κs = search needs
@@ -44,10 +44,10 @@ identifierish-requires : tie.Need-identifierish-requires
 identifierish-requires c κs = search needs
 
 more-requires-2 : tie.Need-more-requires-2
-more-requires-2 c κs = omega (arith, fair-fits (c .before .before .before .before .before .before .before .before .before .args .s .now) (c .before .before .before .before .before .before .before .before .before .args .at + c .before .before .before .before .before .code .given .0 .1 .0) (c .identifierish .ensures) (identifier-fair _ _ _ _))
+more-requires-2 c κs = omega (arith, fair-fits (c .before .before .before .before .before .before .before .before .before .args .s .now) (c .before .before .before .before .before .before .before .before .before .args .at + c .before .before .before .before .before .code .given .0 .1 .0) (c .identifierish .ensures) (identifier-fair _ _ _ _ _))
 
 returns-2 : tie.Need-returns-2
-returns-2 c = let h = c .more2 .ensures ∙ ap (more 1) (c .before .identifierish .ensures) in rw (hashed-on (left (c .before .before .before .before .before .before .before .before .before .before .args .s .now) (c .before .before .before .before .before .before .before .before .before .before .args .o)) (c .before .before .before .before .before .before .before .before .before .before .args .o) (c .before .before .before .before .before .before .before .before .before .before .args .h) (here (c .before .before .before .before .before))) (search flags)
+returns-2 c = let h = c .more2 .ensures ∙ ap (more 1) (c .before .identifierish .ensures) in rw (hashed-on _ (left (c .before .before .before .before .before .before .before .before .before .before .args .s .now) (c .before .before .before .before .before .before .before .before .before .before .args .o)) (c .before .before .before .before .before .before .before .before .before .before .args .o) (c .before .before .before .before .before .before .before .before .before .before .args .h) (here (c .before .before .before .before .before))) (search flags)
 
 refuse-requires : tie.Need-refuse-requires
 refuse-requires c κs = search needs
@@ -59,10 +59,10 @@ refuse-requires-2 : tie.Need-refuse-requires-2
 refuse-requires-2 c κs = search needs
 
 returns-3 : tie.Need-returns-3
-returns-3 c = rw (hashed-on (left (c .before .before .before .before .before .before .before .before .before .args .s .now) (c .before .before .before .before .before .before .before .before .before .args .o)) (c .before .before .before .before .before .before .before .before .before .args .o) (c .before .before .before .before .before .before .before .before .before .args .h) (here (c .before .before .before .before))) (search flags)
+returns-3 c = rw (hashed-on _ (left (c .before .before .before .before .before .before .before .before .before .args .s .now) (c .before .before .before .before .before .before .before .before .before .args .o)) (c .before .before .before .before .before .before .before .before .before .args .o) (c .before .before .before .before .before .before .before .before .before .args .h) (here (c .before .before .before .before))) (search flags)
 
 returns-4 : tie.Need-returns-4
-returns-4 c = c .refuse2 .ensures ∙ sym (hashed-end _ _ _ (ended _ _ (sym (c .before .before .before .char-at .ensures) ∙ c .before .enum-told .given .1)))
+returns-4 c = c .refuse2 .ensures ∙ sym (hashed-end _ _ _ _ (ended _ _ (sym (c .before .before .before .char-at .ensures) ∙ c .before .enum-told .given .1)))
 
 pub hashed-spec : {M : Type 1} → statement M
 hashed-spec =

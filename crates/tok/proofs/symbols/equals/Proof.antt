@@ -37,11 +37,11 @@ right-arrow-requires : tie.Need-right-arrow-requires
 right-arrow-requires c κs = search needs
 
 more-requires : tie.Need-more-requires
-more-requires c κs = omega (arith, fair-fits (c .before .before .before .before .before .before .args .s .now) (c .before .before .before .before .before .before .args .at + 1) (c .right-arrow .ensures) (arrow-fair _ _ _))
+more-requires c κs = omega (arith, fair-fits (c .before .before .before .before .before .before .args .s .now) (c .before .before .before .before .before .before .args .at + 1) (c .right-arrow .ensures) (arrow-fair _ _ _ _))
 
 returns-2 : tie.Need-returns-2
 unfolding equals widthOf
-returns-2 c = let a = c .before .before .before .before .before .before .before .args in let d = next-drop (a .s .now) (a .at) '> refl (sym (c .before .before .before .is-next2 .ensures) ∙ c .before .before .if2 .taken) in let e = c .more .ensures ∙ ap (more 1) (c .before .right-arrow .ensures ∙ ap (λ (l : List ℕ). rightArrow (a .o) l (a .at + 1)) (sym d)) in search nexts
+returns-2 c = let a = c .before .before .before .before .before .before .before .args in let d = next-drop (a .s .now) (a .at) '> refl (sym (c .before .before .before .is-next2 .ensures) ∙ c .before .before .if2 .taken) in let e = c .more .ensures ∙ ap (more 1) (c .before .right-arrow .ensures ∙ ap (λ (l : List ℕ). rightArrow (a .rd) (a .o) l (a .at + 1)) (sym d)) in search nexts
 
 plain-requires-2 : tie.Need-plain-requires-2
 plain-requires-2 c κs = search needs

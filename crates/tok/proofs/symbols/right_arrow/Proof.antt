@@ -31,7 +31,7 @@ more-requires : tie.Need-more-requires
 more-requires c κs = omega (arith, fair-fits (c .before .before .before .before .before .before .before .args .s .now) (c .before .before .before .before .before .before .before .args .at + c .before .before .before .code .given .0 .1 .0) (c .arrow-look .ensures) (arrow-look-fair _ _ _))
 
 returns : tie.Need-returns
-returns c = let e = c .more .ensures ∙ ap (more 1) (c .before .arrow-look .ensures) in rw (arrow-on _ (here (c .before .before .before))) (search picks)
+returns c = let e = c .more .ensures ∙ ap (more 1) (c .before .arrow-look .ensures) in rw (arrow-on _ _ (here (c .before .before .before))) (search picks)
 
 add-arrow-code : tie.Need-add-arrow-code
 add-arrow-code c = omega (arith, here (c .before .before))
@@ -40,10 +40,10 @@ arrow-code-requires : tie.Need-arrow-code-requires
 arrow-code-requires c κs = search needs
 
 more-requires-2 : tie.Need-more-requires-2
-more-requires-2 c κs = omega (arith, fair-fits (c .before .before .before .before .before .before .before .before .args .s .now) (c .before .before .before .before .before .before .before .before .args .at + c .before .before .before .before .code .given .0 .1 .0) (c .arrow-code .ensures) (arrow-code-fair _ _ _ _ refl))
+more-requires-2 c κs = omega (arith, fair-fits (c .before .before .before .before .before .before .before .before .args .s .now) (c .before .before .before .before .before .before .before .before .args .at + c .before .before .before .before .code .given .0 .1 .0) (c .arrow-code .ensures) (arrow-code-fair _ _ _ _ _ refl))
 
 returns-2 : tie.Need-returns-2
-returns-2 c = let e = c .more2 .ensures ∙ ap (more 1) (c .before .arrow-code .ensures) in rw (arrow-on _ (here (c .before .before .before .before))) (search picks)
+returns-2 c = let e = c .more2 .ensures ∙ ap (more 1) (c .before .arrow-code .ensures) in rw (arrow-on _ _ (here (c .before .before .before .before))) (search picks)
 
 arrow-code-requires-2 : tie.Need-arrow-code-requires-2
 arrow-code-requires-2 c κs = search needs
@@ -55,10 +55,10 @@ refuse-requires : tie.Need-refuse-requires
 refuse-requires c κs = search needs
 
 returns-3 : tie.Need-returns-3
-returns-3 c = rw (arrow-on _ (here (c .before .before .before))) (search picks)
+returns-3 c = rw (arrow-on _ _ (here (c .before .before .before))) (search picks)
 
 returns-4 : tie.Need-returns-4
-returns-4 c = c .refuse .ensures ∙ sym (arrow-end _ (ended _ _ (sym (c .before .before .before .char-at .ensures) ∙ c .before .enum-told .given .1)))
+returns-4 c = c .refuse .ensures ∙ sym (arrow-end _ _ (ended _ _ (sym (c .before .before .before .char-at .ensures) ∙ c .before .enum-told .given .1)))
 
 pub right-arrow-spec : {M : Type 1} → statement M
 right-arrow-spec = tie.close (tie.spec char-at-requires enum-known-code add-arrow-look arrow-look-requires more-requires returns add-arrow-code arrow-code-requires more-requires-2 returns-2 arrow-code-requires-2 enum-told refuse-requires returns-3 returns-4)
