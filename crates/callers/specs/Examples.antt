@@ -2,8 +2,8 @@
 use Rattle.std.specs.Prelude.{ℕ, List, [], ◌∷◌, ◌≡◌, refl}
 use Rattle.utf8.specs.Chars.{'#, '*, '/, '1, '=, '>, 'backtick, 'comma, 'dot, 'dquote, 'quote, 'r}
 use Rattle.utf8.specs.Utf8.{chars, chars_from, high, lead, low, reach, sight, width_of}
-use Rattle.unicode.specs.Ranges.{holds, in_ranges}
-use Rattle.unicode.specs.Tables.{continue_ranges, start_ranges}
+use Rattle.unicode_xid.specs.Ranges.{holds, in_ranges}
+use Rattle.unicode_xid.specs.Tables.{continue_ranges, start_ranges}
 use Rattle.record.specs.Records.{refusal}
 use Rattle.record.specs.declared.Code.TheVariants.{NoRoom}
 use Rattle.scan.specs.Depth.{deepest, depth_from, slash_depth}

@@ -3,7 +3,7 @@
 use Rattle.std.specs.Prelude.{◌+◌, ◌-◌, ℕ, Bool, cond, true, List, [], ◌∷◌, eqb, ltb, drop}
 use Rattle.utf8.specs.Chars.{'#, '*, '/, '[, '], 'backslash, 'brace, 'comma, 'dquote, 'paren, 'quote, 'r, 'semi, 'unbrace, 'unparen}
 use Rattle.utf8.specs.Utf8.{width_of}
-use Rattle.unicode.specs.Identifier.{is_identifier_start}
+use Rattle.unicode_xid.specs.Identifier.{is_identifier_start}
 use Rattle.record.specs.Records.{refusal}
 use Rattle.record.specs.declared.Reading.{Reading}
 use Rattle.record.specs.declared.Reading.TheVariants.{Kept, Old}

@@ -181,7 +181,7 @@ fn body_skip(s: &[u8], rd: Reading, at: usize, o: usize, m: usize) -> Skip
             if code == signs::DOUBLE_QUOTE {
                 return skip_more(1, scan::regex_skip(s, at + width, o, closing_hashes(rd, m)));
             }
-            if unicode::is_identifier_start(code) {
+            if unicode_xid::is_identifier_start(code) {
                 return skip_more(1, scan::up_to(scan::word(s, at + width)));
             }
             lost(Code::ExpectedStringLiteral, at, at, 0)

@@ -2,8 +2,8 @@
 use Rattle.std.specs.Prelude.{ℕ, ◌<◌, cond, List, ◌≡◌, refl, length}
 use Rattle.std.proofs.Common.{lt-ltb}
 use Rattle.utf8.specs.Utf8.{chars, chars_from, high, lead, low, reach, sight, width_of}
-use Rattle.unicode.specs.Ranges.{holds, in_ranges}
-use Rattle.unicode.specs.Tables.{continue_ranges, start_ranges}
+use Rattle.unicode_xid.specs.Ranges.{holds, in_ranges}
+use Rattle.unicode_xid.specs.Tables.{continue_ranges, start_ranges}
 use Rattle.record.specs.Checks.{checks}
 use Rattle.record.specs.declared.Reading.{Reading}
 use Rattle.record.specs.declared.Reading.TheVariants.{Kept, Old}

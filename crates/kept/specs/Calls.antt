@@ -5,7 +5,7 @@ use Rattle.std.proofs.Common.{◌∙◌, ap, sym}
 use borrow.Author.Tests.{eqb-true}
 use Rattle.utf8.specs.Chars.{'#, '=, '>, '?, 'at, 'dquote, 'r}
 use Rattle.utf8.specs.Utf8.{width_of}
-use Rattle.unicode.specs.Identifier.{is_identifier_start}
+use Rattle.unicode_xid.specs.Identifier.{is_identifier_start}
 use Rattle.record.specs.declared.Kind.{Kind}
 use Rattle.record.specs.declared.Reading.TheVariants.{Kept, Old}
 use Rattle.scan.specs.Far.{after}

@@ -3,7 +3,7 @@
 use Rattle.std.specs.Prelude.{◌+◌, suc, zero, ℕ, Bool, ◌&&◌, ◌||◌, cond, false, not, true, List, [], ◌∷◌, eqb, drop, length}
 use Rattle.utf8.specs.Chars.{'#, '=, '>, '?, 'at, 'quote, 'r}
 use Rattle.utf8.specs.Utf8.{width_of}
-use Rattle.unicode.specs.Identifier.{is_identifier_start}
+use Rattle.unicode_xid.specs.Identifier.{is_identifier_start}
 use Rattle.record.specs.declared.Reading.TheVariants.{Kept, Old}
 use Rattle.scan.specs.IfNext.{if_next}
 use Rattle.scan.specs.Seek.{seek}

@@ -8,7 +8,7 @@ use Rattle.std.proofs.Math.Path.{refl}
 use Rattle.std.proofs.Math.Dec.{eqb}
 use Rattle.std.proofs.Common.{eqb-true}
 use Rattle.utf8.specs.Utf8.{width_of}
-use Rattle.unicode.specs.Identifier.{is_identifier_start}
+use Rattle.unicode_xid.specs.Identifier.{is_identifier_start}
 use Rattle.record.specs.Codes.{among}
 use Rattle.record.specs.Numbers.{kind_number}
 use Rattle.record.specs.Records.{refusal, token_of}

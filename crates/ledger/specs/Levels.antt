@@ -7,7 +7,7 @@ use mathlib.Core.List.{List, [], ◌∷◌}
 use Rattle.std.proofs.Math.Path.{◌≡◌, ap, refl}
 use Rattle.std.proofs.Math.Dec.{eqb}
 use Rattle.utf8.specs.Utf8.{width_of}
-use Rattle.unicode.specs.Identifier.{is_identifier_start}
+use Rattle.unicode_xid.specs.Identifier.{is_identifier_start}
 use Rattle.record.specs.Codes.{among}
 use Rattle.record.specs.Numbers.{kind_number}
 use Rattle.record.specs.declared.Code.{Code}

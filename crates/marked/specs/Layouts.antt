@@ -8,8 +8,8 @@ use Rattle.ltk.specs.Layout.{little, number_at}
 use Rattle.ltk.specs.Ltk.{file_check, flat, header_bytes, image, judged, listed, read_answer, read_numbers, record_bytes, write_answer, written_bytes}
 use Rattle.run.specs.Numbers.{groups, numbers_all}
 use Rattle.utf8.specs.Utf8.{chars, chars_from, high, lead, low, reach, sight, width_of}
-use Rattle.unicode.specs.Ranges.{holds, in_ranges}
-use Rattle.unicode.specs.Tables.{continue_ranges, start_ranges}
+use Rattle.unicode_xid.specs.Ranges.{holds, in_ranges}
+use Rattle.unicode_xid.specs.Tables.{continue_ranges, start_ranges}
 use Rattle.record.specs.Checks.{checks}
 use Rattle.scan.specs.Depth.{deepest, depth_from, slash_depth}
 use Rattle.scan.specs.Far.{after}

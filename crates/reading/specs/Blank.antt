@@ -1,7 +1,7 @@
 -- What a gap holds, said without its reader. 01: "Gaps: whitespace; `//` up to but not including newline or end; nested `/* */`."
 use Rattle.std.specs.Prelude.{suc, ℕ, Bool, ◌&&◌, cond, false, not, true, List, [], ◌++◌, ◌∷◌, ◌≡◌, eqb}
 use Rattle.utf8.specs.Chars.{'*, '/, 'newline}
-use Rattle.unicode.specs.Whitespace.{is_whitespace}
+use Rattle.unicode_xid.specs.Whitespace.{is_whitespace}
 use Rattle.scan.specs.IfNext.{if_next}
 
 -- the two characters of a mark: a star and a slash, or a slash and a star

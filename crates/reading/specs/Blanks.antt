@@ -4,7 +4,7 @@ use Rattle.std.proofs.Common.{arith, take-append-drop, drop-drop, take-add, eqb-
 use Rattle.std.specs.Prelude.{Bool, cond, false, true, List, [], ◌++◌, ◌∷◌, eqb, ltb, drop, length, take}
 use Rattle.std.proofs.Math.Path.{◌≡◌, refl}
 use Rattle.utf8.specs.Utf8.{width_of}
-use Rattle.unicode.specs.Whitespace.{is_whitespace}
+use Rattle.unicode_xid.specs.Whitespace.{is_whitespace}
 use Rattle.record.specs.declared.Code.TheVariants.{UnterminatedBlockComment}
 use Rattle.scan.specs.Far.{Far, until-before}
 use Rattle.scan.specs.IfNext.{if_next}

@@ -7,7 +7,7 @@ use Rattle.std.proofs.Common.{◌∙◌, eqb-true}
 use Rattle.std.proofs.Math.Path.{ap, refl}
 use Rattle.std.proofs.Math.Dec.{eqb}
 use Rattle.utf8.specs.Utf8.{width_of}
-use Rattle.unicode.specs.Identifier.{is_identifier_start}
+use Rattle.unicode_xid.specs.Identifier.{is_identifier_start}
 use Rattle.record.specs.declared.Code.{Code}
 use Rattle.record.specs.declared.Code.TheVariants.{UnterminatedCharacterLiteral, UnterminatedEscape, UnterminatedStringLiteral}
 use Rattle.record.specs.declared.Kind.{Kind}

@@ -2,7 +2,7 @@
 use Rattle.std.specs.Prelude.{◌+◌, ℕ, cond, List, [], ◌∷◌, eqb}
 use Rattle.utf8.specs.Chars.{'*, '/}
 use Rattle.utf8.specs.Utf8.{width_of}
-use Rattle.unicode.specs.Whitespace.{is_whitespace}
+use Rattle.unicode_xid.specs.Whitespace.{is_whitespace}
 use Rattle.scan.specs.Depth.{walk_depth}
 use Rattle.scan.specs.Seek.{block_comment, line_skip, skip_more}
 use Rattle.scan.specs.Walk.{turn_of, walk}

@@ -1,7 +1,7 @@
 -- Backtick escapes, strings, and what a quote starts.
 use Rattle.std.specs.Prelude.{◌+◌, ℕ, cond, List, [], ◌∷◌, drop}
 use Rattle.utf8.specs.Chars.{'dquote, 'quote}
-use Rattle.unicode.specs.Identifier.{is_identifier_start}
+use Rattle.unicode_xid.specs.Identifier.{is_identifier_start}
 use Rattle.record.specs.declared.Code.{Code}
 use Rattle.record.specs.declared.Code.TheVariants.{UnterminatedCharacterLiteral, UnterminatedEscape, UnterminatedStringLiteral}
 use Rattle.record.specs.declared.Kind.{Kind}

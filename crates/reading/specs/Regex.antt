@@ -3,7 +3,7 @@
 use Rattle.std.specs.Prelude.{◌+◌, ◌-◌, ℕ, cond, List, [], ◌∷◌, eqb, drop}
 use Rattle.utf8.specs.Chars.{'#, 'dquote}
 use Rattle.utf8.specs.Utf8.{width_of}
-use Rattle.unicode.specs.Identifier.{is_identifier_start}
+use Rattle.unicode_xid.specs.Identifier.{is_identifier_start}
 use Rattle.record.specs.declared.Code.TheVariants.{ExpectedStringLiteral, UnterminatedStringLiteral}
 use Rattle.record.specs.declared.Kind.TheVariants.{RegexLiteral}
 use Rattle.record.specs.declared.Reading.{Reading}

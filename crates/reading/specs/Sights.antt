@@ -4,7 +4,7 @@ use Rattle.std.proofs.Common.{arith, ◌∙◌, ap, sym}
 use Rattle.utf8.specs.Chars.{'?, '[, '], 'at, 'dquote, 'newline, 'quote}
 use Rattle.utf8.specs.Laws.{Ended, Seen, seen, sight_ascii}
 use Rattle.utf8.specs.Picks.{picks}
-use Rattle.unicode.specs.Identifier.{is_identifier_start}
+use Rattle.unicode_xid.specs.Identifier.{is_identifier_start}
 use Rattle.record.specs.declared.Code.TheVariants.{UnterminatedCharacterLiteral, UnterminatedCode}
 use Rattle.record.specs.declared.Kind.TheVariants.{CharLiteral, EqualsGreaterThanCode, EqualsGreaterThanQuestionCode, Lifetime}
 use Rattle.record.specs.declared.Refusal.{Refusal}

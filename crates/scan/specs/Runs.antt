@@ -7,8 +7,8 @@ use Rattle.std.proofs.lemmas.Bool.{eqb-false, lt-leb}
 use Rattle.utf8.specs.Chars.{'#, '*, '/, 'backslash, 'dquote}
 use Rattle.utf8.specs.Laws.{Seen, seen, sight_ascii}
 use Rattle.utf8.specs.Picks.{picks}
-use Rattle.unicode.specs.Identifier.{ascii_continue, is_identifier_continue}
-use Rattle.unicode.proofs.Ascii.{ascii_continue_lem}
+use Rattle.unicode_xid.specs.Identifier.{ascii_continue, is_identifier_continue}
+use Rattle.unicode_xid.proofs.Ascii.{ascii_continue_lem}
 use Rattle.scan.specs.Readers.{com_done, com_step, comment_end, reg_done, reg_step, regex_end, str_done, str_step, string_end}
 use Rattle.scan.specs.Seek.{seek, seek_done, seek_step, stop_at}
 use Rattle.scan.specs.Until.{left, until, until-on}

@@ -1,7 +1,7 @@
 -- The first character of a sort, and the readers that code and gaps share: the rest of a line, block comments, strings.
 use Rattle.std.specs.Prelude.{◌+◌, ℕ, Bool, false, not, List, eqb}
 use Rattle.utf8.specs.Chars.{'#, 'backtick, 'dquote, 'newline, 'quote}
-use Rattle.unicode.specs.Identifier.{is_identifier_continue}
+use Rattle.unicode_xid.specs.Identifier.{is_identifier_continue}
 use Rattle.record.specs.Records.{refusal}
 use Rattle.record.specs.declared.Code.{Code}
 use Rattle.record.specs.declared.Code.TheVariants.{UnterminatedBlockComment, UnterminatedStringLiteral}

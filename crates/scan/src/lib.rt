@@ -339,7 +339,7 @@ fn stops(kind: Sought, c: u32) -> bool
         Sought::Quote => c == signs::QUOTE,
         Sought::Backtick => c == signs::BACKTICK,
         Sought::Hashes => c != signs::HASH,
-        Sought::Word => !unicode::is_identifier_continue(c),
+        Sought::Word => !unicode_xid::is_identifier_continue(c),
     }
 }
 

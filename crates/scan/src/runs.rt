@@ -1,7 +1,7 @@
 // Runs of bytes below 128 that leave a reader's state as it is: for speed alone. The readers' loops go on from where a run ends.
 ghost use Rattle.std.specs.Prelude.{◌≡◌, ◌+◌, drop};
 ghost use Rattle.scan.specs.Runs.{run, plain_stop, seek_stop};
-ghost use Rattle.unicode.specs.Identifier.{ascii_continue};
+ghost use Rattle.unicode_xid.specs.Identifier.{ascii_continue};
 ghost use Rattle.scan.specs.declared.Sought.TheVariants.{Hashes, Word};
 
 use crate::Sought;

@@ -9,7 +9,7 @@ use lib.ListN.{drop, get_or, length, take}
 use lib.Seq.{length-take-le}
 use borrow.Author.Tests.{leb-false, ne_eqb, not-false}
 use Rattle.utf8.specs.Laws.{Seen}
-use Rattle.unicode.specs.Whitespace.{is_whitespace}
+use Rattle.unicode_xid.specs.Whitespace.{is_whitespace}
 use Rattle.record.specs.declared.Refusal.{Refusal}
 use Rattle.scan.specs.Deepens.{cover_none, deeper-none, depth_pass}
 use Rattle.scan.specs.Depth.{cover_depth, deeper, depth_from}

@@ -5,7 +5,7 @@ use Rattle.std.specs.Prelude.{Bool, false, true, List, [], ◌++◌, ◌∷◌, 
 use Rattle.std.proofs.Math.Seq.{length-take-le}
 use Rattle.utf8.specs.Chars.{'*, '/, 'newline}
 use Rattle.utf8.specs.Utf8.{width_of}
-use Rattle.unicode.specs.Whitespace.{is_whitespace}
+use Rattle.unicode_xid.specs.Whitespace.{is_whitespace}
 use Rattle.record.specs.declared.Code.TheVariants.{UnterminatedBlockComment}
 use Rattle.scan.specs.IfNext.{if_next}
 use Rattle.scan.specs.Readers.{comment_end}

@@ -9,7 +9,7 @@ use Rattle.std.proofs.Common.{◌∙◌, take-append-drop, drop-drop, take-add, 
 use Rattle.std.proofs.Math.Path.{◌≡◌, ap, refl, sym}
 use Rattle.utf8.specs.Chars.{'*, '/}
 use Rattle.utf8.specs.Utf8.{width_of}
-use Rattle.unicode.specs.Whitespace.{is_whitespace}
+use Rattle.unicode_xid.specs.Whitespace.{is_whitespace}
 use Rattle.record.specs.declared.Code.TheVariants.{UnterminatedBlockComment}
 use Rattle.scan.specs.Deepens.{deeper-none, deeper_of_none, deeper-right, deeper-skip, deeper_three, left_below}
 use Rattle.scan.specs.Depth.{comment_depth, cover_depth, deeper, deepest, depth_from, slash_depth, walk_depth}

@@ -1,8 +1,8 @@
--- What the functions of `unicode` answer, and what is wanted of them.
+-- What the functions of `unicode_xid` answer, and what is wanted of them.
 use Rattle.std.specs.Prelude.{ℕ, Bool, false, cond, not, ◌||◌, eqb}
 use Rattle.utf8.specs.Chars.{'underscore}
-use Rattle.unicode.specs.Whitespace.{is_whitespace}
-use Rattle.unicode.specs.Identifier.{is_identifier_start, is_identifier_continue}
+use Rattle.unicode_xid.specs.Whitespace.{is_whitespace}
+use Rattle.unicode_xid.specs.Identifier.{is_identifier_start, is_identifier_continue}
 use Rattle.property.specs.declared.line.Property.{Property}
 use Rattle.property.specs.declared.line.Property.TheVariants.{Start, Continue, White}
 

@@ -1,8 +1,8 @@
 -- Small files, by computation.
 use Rattle.std.specs.Prelude.{ℕ, false, ◌≡◌, refl, List}
 use Rattle.std.proofs.Common.{ap, ◌∙◌, arith}
-use Rattle.unicode.specs.Ranges.{holds, in_ranges}
-use Rattle.unicode.specs.Tables.{start_ranges}
+use Rattle.unicode_xid.specs.Ranges.{holds, in_ranges}
+use Rattle.unicode_xid.specs.Tables.{start_ranges}
 use Rattle.text.specs.Bytes.{bytes}
 use Rattle.property.specs.Hex.{digit_of, hex_from, hex_of}
 use Rattle.property.specs.Lines.{front, starts_with, known_of, semi_of, last_of, range_of, first_of, line_of, read_of, line_at}

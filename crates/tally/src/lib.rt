@@ -1,2 +1,2 @@
-// What the lines of a file of Unicode's say of a property, held against the functions of `unicode`.
+// What the lines of a file of Unicode's say of a property, held against the functions of `unicode_xid`.
 pub mod tally;

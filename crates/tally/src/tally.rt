@@ -26,9 +26,9 @@ pub fn asks(p: Property, c: u32) -> bool
     ensures { result ≡ asked p c }
 {
     match p {
-        Property::Start => unicode::is_identifier_start(c),
-        Property::Continue => unicode::is_identifier_continue(c),
-        Property::White => unicode::is_whitespace(c),
+        Property::Start => unicode_xid::is_identifier_start(c),
+        Property::Continue => unicode_xid::is_identifier_continue(c),
+        Property::White => unicode_xid::is_whitespace(c),
     }
 }
 

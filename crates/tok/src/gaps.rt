@@ -64,7 +64,7 @@ pub fn gap_turn(s: &[u8], at: usize, next: usize, c: u32) -> Turned
     if c == signs::SLASH {
         return comment_turn(s, next, at);
     }
-    if unicode::is_whitespace(c) {
+    if unicode_xid::is_whitespace(c) {
         return flat(Turn::Pass(next, 0, 0));
     }
     flat(Turn::Stop)
@@ -86,7 +86,7 @@ pub fn gap_run(s: &[u8], from: usize) -> usize
         if 128 <= x {
             return at;
         }
-        if !unicode::is_whitespace(x) {
+        if !unicode_xid::is_whitespace(x) {
             return at;
         }
         at += 1;

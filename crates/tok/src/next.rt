@@ -1,6 +1,6 @@
 // One call: a gap and then a token, an error or the end. It knows nothing of shift, room or work limit.
 ghost use Rattle.std.specs.Prelude.{cond, ◌∷◌, ◌≡◌};
-ghost use Rattle.unicode.specs.Identifier.{is_identifier_start};
+ghost use Rattle.unicode_xid.specs.Identifier.{is_identifier_start};
 ghost use Rattle.scan.specs.Until.{left};
 ghost use Rattle.reading.specs.Answers.{more, told, told_token, told_what};
 ghost use Rattle.reading.specs.Next.{starts, token, token_or_end, next};
@@ -16,7 +16,7 @@ use utf8::{Sight, signs};
 fn other(s: &[u8], rd: Reading, c: u32, o: usize, next: usize) -> Call
     ensures { result ≡ cond (is_identifier_start c) (more 1 (identifierish rd (left s.now o) o (left s.now next) next)) (stray o) }
 {
-    if unicode::is_identifier_start(c) {
+    if unicode_xid::is_identifier_start(c) {
         return crate::more(1, crate::identifier::identifierish(s, rd, o, next));
     }
     crate::symbols::stray(o)

@@ -39,7 +39,7 @@ fn hashed(s: &[u8], rd: Reading, o: usize, h: usize, at: usize) -> Call
             if code == signs::DOUBLE_QUOTE {
                 return crate::more(1, regex_token(s, o, h, at + width));
             }
-            if unicode::is_identifier_start(code) {
+            if unicode_xid::is_identifier_start(code) {
                 return crate::more(1, crate::identifier::identifierish(s, rd, o, at + width));
             }
             reading::refuse(Code::ExpectedStringLiteral, at, at, 0)

@@ -1,4 +1,4 @@
-// Unicode's own files over every code point: what the lines in data/ say, and what the three functions of `unicode` answer. Then the same over a
+// Unicode's own files over every code point: what the lines in data/ say, and what the three functions of `unicode_xid` answer. Then the same over a
 // file of ours in which differences are planted, so that the run shows that it sees them.
 ghost use Rattle.std.specs.Prelude.{◌≡◌, length};
 

@@ -4,8 +4,8 @@ use Rattle.std.proofs.Common.{arith, ◌∙◌, ap, sym, eqb-true}
 use Rattle.std.proofs.Math.Bool.{true}
 use Rattle.std.proofs.Math.Path.{refl}
 use Rattle.utf8.specs.Chars.{'-, '/, '=, 'at, 'dot, '~}
-use Rattle.unicode.specs.Identifier.{is_identifier_start}
-use Rattle.unicode.specs.Whitespace.{is_whitespace}
+use Rattle.unicode_xid.specs.Identifier.{is_identifier_start}
+use Rattle.unicode_xid.specs.Whitespace.{is_whitespace}
 use Rattle.record.specs.Checks.{checks}
 use Rattle.record.specs.Codes.{Refuses, among, checks-refuse}
 use Rattle.record.specs.Numbers.{code_again, code_number, code_of}

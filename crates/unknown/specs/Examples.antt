@@ -2,8 +2,8 @@
 use Rattle.std.specs.Prelude.{ℕ, List, [], ◌∷◌, ◌≡◌, refl}
 use Rattle.utf8.specs.Chars.{'!, '#, '-, '/, '1, '=, '>, 'L, '[, '], 'a, 'at, 'dot, 'quote, 'x, '~}
 use Rattle.utf8.specs.Utf8.{chars, chars_from, high, lead, low, reach, sight, width_of}
-use Rattle.unicode.specs.Ranges.{holds, in_ranges}
-use Rattle.unicode.specs.Tables.{continue_ranges, start_ranges}
+use Rattle.unicode_xid.specs.Ranges.{holds, in_ranges}
+use Rattle.unicode_xid.specs.Tables.{continue_ranges, start_ranges}
 use Rattle.record.specs.Checks.{checks}
 use Rattle.record.specs.Numbers.{code_number}
 use Rattle.record.specs.Rust.{rust_number}

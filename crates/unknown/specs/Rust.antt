@@ -3,7 +3,7 @@
 use Rattle.std.specs.Prelude.{◌+◌, ℕ, cond, List, [], ◌∷◌, eqb, drop}
 use Rattle.utf8.specs.Chars.{'!, '#, '-, '/, ':, '=, '>, '?, 'L, 'R, 'at, 'backtick, 'dot, 'dquote, 'quote, 'r, '~}
 use Rattle.utf8.specs.Utf8.{width_of}
-use Rattle.unicode.specs.Identifier.{is_identifier_start}
+use Rattle.unicode_xid.specs.Identifier.{is_identifier_start}
 use Rattle.record.specs.declared.Code.TheVariants.{UnrecognizedToken, UnterminatedCode}
 use Rattle.record.specs.declared.Kind.TheVariants.{DotDot, Equals, EqualsEquals, EqualsGreaterThanCode, EqualsGreaterThanLookahead, EqualsGreaterThanLookbehind, EqualsGreaterThanQuestionCode, Lookahead, Lookbehind, MinusGreaterThan, TildeTilde}
 use Rattle.record.specs.declared.Reading.{Reading}

@@ -6,10 +6,10 @@ use Rattle.std.proofs.Common.{◌∙◌, ap, sym, eq-eqb, eqb-true}
 use Rattle.std.proofs.Math.Path.{refl}
 use Rattle.std.proofs.Math.Dec.{eqb}
 use Rattle.utf8.specs.Utf8.{width_of}
-use Rattle.unicode.specs.Identifier.{is_identifier_start}
-use Rattle.unicode.specs.Ranges.{holds, in_ranges}
-use Rattle.unicode.specs.Tables.{start_ranges}
-use Rattle.unicode.specs.Whitespace.{is_whitespace}
+use Rattle.unicode_xid.specs.Identifier.{is_identifier_start}
+use Rattle.unicode_xid.specs.Ranges.{holds, in_ranges}
+use Rattle.unicode_xid.specs.Tables.{start_ranges}
+use Rattle.unicode_xid.specs.Whitespace.{is_whitespace}
 use Rattle.record.specs.Codes.{among, not-true}
 use Rattle.record.specs.Numbers.{code_number}
 use Rattle.record.specs.Rust.{is_finer}

@@ -3,7 +3,7 @@ use Rattle.std.specs.Prelude.{◌+◌, ◌-◌, ◌≤◌, suc, zero, ℕ, Bool,
 use Rattle.std.proofs.Common.{arith}
 use Rattle.utf8.specs.Chars.{'*, '/}
 use Rattle.utf8.specs.Utf8.{width_of}
-use Rattle.unicode.specs.Whitespace.{is_whitespace}
+use Rattle.unicode_xid.specs.Whitespace.{is_whitespace}
 use Rattle.scan.specs.IfNext.{if_next}
 use Rattle.scan.specs.Seek.{block_comment, line_skip, skip_more}
 use Rattle.scan.specs.Walk.{turn_of, walk_from}

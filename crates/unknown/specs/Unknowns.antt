@@ -1,8 +1,8 @@
 -- WHICH IS WHICH, said of the characters alone. 02, E3: "half a symbol (`.`, `~`, `-`, `/`, `@`, or `=>@` without L or R) against a character that starts nothing."
 use Rattle.std.specs.Prelude.{ℕ, Bool, ◌&&◌, ◌||◌, cond, false, not, true, List, [], ◌∷◌, eqb}
 use Rattle.utf8.specs.Chars.{'!, '#, '*, '-, '/, ':, '=, '>, 'L, 'R, 'at, 'backtick, 'dot, 'dquote, 'quote, '~}
-use Rattle.unicode.specs.Identifier.{is_identifier_start}
-use Rattle.unicode.specs.Whitespace.{is_whitespace}
+use Rattle.unicode_xid.specs.Identifier.{is_identifier_start}
+use Rattle.unicode_xid.specs.Whitespace.{is_whitespace}
 use Rattle.record.specs.Codes.{among}
 use Rattle.record.specs.Numbers.{code_number}
 use Rattle.record.specs.declared.Code.TheVariants.{HalfSymbol, StrayCharacter}

@@ -81,7 +81,7 @@ pub fn lifetimeish(s: &[u8], o: usize, at: usize) -> Call
 {
     match utf8::char_at(s, at) {
         Sight::Char { code, width: _ } => {
-            if unicode::is_identifier_start(code) {
+            if unicode_xid::is_identifier_start(code) {
                 return lifetime(s, o, at);
             }
             char_literal(s, o, at)

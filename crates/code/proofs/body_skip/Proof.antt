@@ -21,7 +21,7 @@ use Rattle.code.proofs.skip_more.Reads as skip-more-reads
 use Rattle.scan.proofs.regex_skip.Reads as regex-skip-reads
 use Rattle.scan.proofs.word.Reads as word-reads
 use Rattle.scan.proofs.up_to.Reads as up-to-reads
-use Rattle.unicode.proofs.is_identifier_start.Reads as is-identifier-start-reads
+use Rattle.unicode_xid.proofs.is_identifier_start.Reads as is-identifier-start-reads
 use Rattle.utf8.proofs.char_at.Reads as char-at-reads
 
 -- the character that the code sees

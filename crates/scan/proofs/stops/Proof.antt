@@ -6,7 +6,7 @@ use Rattle.scan.proofs.stops.Statement.{statement}
 use Rattle.scan.proofs.stops.Tie as tie
 use Rattle.scan.proofs.stops.Reads as reads
 use Rattle.scan.proofs.stops.Lts as lts
-use Rattle.unicode.proofs.is_identifier_continue.Reads as is-identifier-continue-reads
+use Rattle.unicode_xid.proofs.is_identifier_continue.Reads as is-identifier-continue-reads
 
 enum_told : tie.Need-enum-told
 enum_told c = search rules

@@ -1,0 +1,21 @@
+-- Written by tools/unicode_tables: `unicode_xid::tables::start_12` meets its contract, by the law of a piece.
+use borrow.Author.Rules.{rules}
+use mathlib.Core.Path.{refl, ◌∙◌}
+use native.Mathlib.Omega.{arith}
+use Rattle.unicode_xid.specs.Tables.{start_ranges}
+use Rattle.unicode_xid.specs.Ranges.{zip}
+use Rattle.unicode_xid.specs.Order.{start-ordered}
+use Rattle.unicode_xid.specs.Pieces.{cut_from, piece_order, piece_between}
+use Rattle.unicode_xid.proofs.tables.start_12.Statement.{statement}
+use Rattle.unicode_xid.proofs.tables.start_12.Tie as tie
+
+lookup-requires : tie.Need-lookup-requires
+unfolding zip start_ranges
+lookup-requires c κs = (refl, piece_order start_ranges 504 42 start-ordered)
+
+returns : tie.Need-returns
+unfolding zip cut_from start_ranges
+returns c = let x = c.before.before.before.args.c in c.lookup.ensures ∙ piece_between start_ranges 504 42 x start-ordered 0x11700 refl (omega arith) 0x12F90 refl (omega arith)
+
+pub start_12_spec : {M : Type 1} → statement M
+start_12_spec = tie.close (tie.spec (λ c. search rules) (λ c. search rules) lookup-requires returns)
