@@ -15,8 +15,8 @@
  *   - Nothing else is written than what is said here.
  *   - Threads: there is no state but what is lent. Every function may be called from any number of threads at once, as long as no slice
  *     that one call writes is used by another.
- *   - Stack: no function calls itself. The frames of the deepest chain of calls in the archives' code take 2,544 bytes together, those of
- *     teyk_sheet_take 3,072, and 128 below the last of them may be used; 1,664 and 2,160 were seen used on a painted stack (both by
+ *   - Stack: no function calls itself. The frames of the deepest chain of calls in the archives' code take 2,720 bytes together, those of
+ *     teyk_sheet_take 3,248, and 128 below the last of them may be used; 1,840 and 2,336 were seen used on a painted stack (both by
  *     beside/stack). Where the dynamic loader binds memcpy or memset only at its first call, that call takes some 3,200 more.
  *   - Words are Unicode 15.0.0's: XID_Start, XID_Continue and White_Space.
  */

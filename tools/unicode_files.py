@@ -26,23 +26,9 @@ def with_property(lines, name):
     return [line for line in lines if line.split("#")[0].partition(";")[2].strip() == name]
 
 
-def others(made, alone):
-    """The files in the folder ALONE that are not in MADE."""
-    found = (os.path.relpath(os.path.join(at, name), ROOT) for at, _, names in os.walk(os.path.join(ROOT, alone)) for name in names)
-    return sorted(path for path in found if path not in made)
-
-
-def finish(made, alone=None):
-    """Writes each file of MADE, by its path from the root; with --check says instead which differs, or that none does. The folder ALONE, if there is
-    one, holds no other file: what else is in it is taken out, or named."""
+def finish(made):
+    """Writes each file of MADE, by its path from the root; with --check says instead which differs, or that none does."""
     differs = False
-    for path in others(made, alone) if alone else []:
-        if "--check" in sys.argv[1:]:
-            print(f"{path} is not what {os.path.basename(sys.argv[0])} writes")
-            differs = True
-        else:
-            os.remove(os.path.join(ROOT, path))
-            os.removedirs(os.path.dirname(os.path.join(ROOT, path)))
     for path, text in made.items():
         whole = os.path.join(ROOT, path)
         if "--check" in sys.argv[1:]:

@@ -20,7 +20,7 @@ above_holds p c h = go (leb p.0 c)
     go false = refl
 
 -- a number below the table's bound is in no range
-pub above : (t : List (ℕ × ℕ)) (b c : ℕ) → ordered b t ≡ true → c < b → in_ranges t c ≡ false
+above : (t : List (ℕ × ℕ)) (b c : ℕ) → ordered b t ≡ true → c < b → in_ranges t c ≡ false
 unfolding in_ranges ordered
 above [] b c o h = refl
 above (p ∷ t) b c o h =

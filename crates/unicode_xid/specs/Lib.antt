@@ -4,9 +4,7 @@ pub mod Tables
 pub mod Ranges
 pub mod Identifier
 pub mod Order
--- the laws that lead there, those that the code cites, and the second table of the code
+-- the laws that lead there, and those that the code cites
 pub mod Laws
-pub mod Added
-pub mod Union
 pub mod Pieces
 pub mod Common

@@ -1,6 +1,5 @@
--- When a table of ranges holds a number: some range does. And the tests that a table is in order, that no two of its ranges touch, and that one lies inside
--- another.
-use Rattle.std.specs.Prelude.{ℕ, suc, Bool, true, false, ◌&&◌, ◌||◌, List, [], ◌∷◌, leb, ltb}
+-- When a table of ranges holds a number: some range does. And the tests that a table is in order, and that one lies inside another.
+use Rattle.std.specs.Prelude.{ℕ, suc, Bool, true, false, ◌&&◌, ◌||◌, List, [], ◌∷◌, leb}
 
 -- ranges, given by their first numbers and by their last
 unfoldable pub zip : List ℕ → List ℕ → List (ℕ × ℕ)
@@ -21,12 +20,6 @@ in_ranges (p ∷ rest) c = holds p c || in_ranges rest c
 unfoldable pub ordered : ℕ → List (ℕ × ℕ) → Bool
 ordered b [] = true
 ordered b (p ∷ rest) = leb b p.0 && (leb p.0 p.1 && ordered (suc p.1) rest)
-
--- 02, E6: "joined where they touch": no range begins where the one before it has just ended
-unfoldable pub apart : List (ℕ × ℕ) → Bool
-apart [] = true
-apart (p ∷ []) = true
-apart (p ∷ q ∷ rest) = ltb (suc p.1) q.0 && apart (q ∷ rest)
 
 -- s without the ranges at its head that lie inside the range q
 unfoldable pub skip : ℕ × ℕ → List (ℕ × ℕ) → List (ℕ × ℕ)

@@ -6,7 +6,7 @@ ghost use Rattle.unicode_xid.specs.Whitespace.{is_whitespace};
 ghost use Rattle.unicode_xid.specs.Ranges.{zip, in_ranges, ordered};
 ghost use Rattle.unicode_xid.specs.Identifier.{is_identifier_start, is_identifier_continue, ascii_start, ascii_continue};
 
-use tables::{added_by_table, start_by_table};
+use tables::{continue_by_table, start_by_table};
 
 // Unicode's White_Space.
 pub fn is_whitespace(c: u32) -> bool
@@ -38,7 +38,7 @@ pub fn is_identifier_start(c: u32) -> bool
     start_by_table(c)
 }
 
-// XID_Continue, with `_`: what starts a word, and what the second table adds.
+// XID_Continue, with `_`.
 pub fn is_identifier_continue(c: u32) -> bool
     ensures { result ≡ is_identifier_continue c }
 {
@@ -48,10 +48,7 @@ pub fn is_identifier_continue(c: u32) -> bool
     if is_common(c) {
         return true;
     }
-    if start_by_table(c) {
-        return true;
-    }
-    added_by_table(c)
+    continue_by_table(c)
 }
 
 fn ascii_start(c: u32) -> bool

@@ -1,4 +1,4 @@
--- `unicode_xid::is_identifier_start` meets its contract: below 128 by the test over those numbers, then as a common letter or by the table.
+-- `unicode::is_identifier_start` meets its contract: below 128 by the test over those numbers, then as a common letter or by the table.
 -- Assumes nothing.
 use borrow.Author.Rules.{rules}
 use mathlib.Core.Path.{sym, ◌∙◌}

@@ -1,4 +1,4 @@
--- `unicode_xid::is_latin` meets its contract.
+-- `unicode::is_latin` meets its contract.
 use mathlib.Core.Path.{refl}
 use Rattle.unicode_xid.specs.Common.{common_both, common-starts}
 use Rattle.unicode_xid.proofs.is_latin.Statement.{statement}

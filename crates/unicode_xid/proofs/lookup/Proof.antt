@@ -1,4 +1,4 @@
--- `unicode_xid::lookup` meets its contract: no range before a holds c, and none from b on.
+-- `unicode::lookup` meets its contract: no range before a holds c, and none from b on.
 -- Assumes nothing.
 use mathlib.Core.Path.{◌≡◌, refl, sym, ◌∙◌}
 use mathlib.Core.Bool.{false}

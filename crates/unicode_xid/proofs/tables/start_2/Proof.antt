@@ -1,4 +1,4 @@
--- Written by tools/unicode_tables: `unicode_xid::tables::start_2` meets its contract, by the law of a piece.
+-- Written by tools/unicode_tables: `unicode::tables::start_2` meets its contract, by the law of a piece.
 use borrow.Author.Rules.{rules}
 use mathlib.Core.Path.{refl, ◌∙◌}
 use native.Mathlib.Omega.{arith}
@@ -11,11 +11,11 @@ use Rattle.unicode_xid.proofs.tables.start_2.Tie as tie
 
 lookup-requires : tie.Need-lookup-requires
 unfolding zip start_ranges
-lookup-requires c κs = (refl, piece_order start_ranges 84 42 start-ordered)
+lookup-requires c κs = (refl, piece_order start_ranges 168 84 start-ordered)
 
 returns : tie.Need-returns
 unfolding zip cut_from start_ranges
-returns c = let x = c.before.before.before.args.c in c.lookup.ensures ∙ piece_between start_ranges 84 42 x start-ordered 0x0AB2 refl (omega arith) 0x0CDD refl (omega arith)
+returns c = let x = c.before.before.before.args.c in c.lookup.ensures ∙ piece_between start_ranges 168 84 x start-ordered 0x108E refl (omega arith) 0x2071 refl (omega arith)
 
 pub start_2_spec : {M : Type 1} → statement M
 start_2_spec = tie.close (tie.spec (λ c. search rules) (λ c. search rules) lookup-requires returns)

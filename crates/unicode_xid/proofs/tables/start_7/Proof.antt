@@ -1,21 +1,21 @@
--- Written by tools/unicode_tables: `unicode_xid::tables::start_7` meets its contract, by the law of a piece.
+-- Written by tools/unicode_tables: `unicode::tables::start_7` meets its contract, by the law of a piece.
 use borrow.Author.Rules.{rules}
 use mathlib.Core.Path.{refl, ◌∙◌}
 use native.Mathlib.Omega.{arith}
 use Rattle.unicode_xid.specs.Tables.{start_ranges}
 use Rattle.unicode_xid.specs.Ranges.{zip}
 use Rattle.unicode_xid.specs.Order.{start-ordered}
-use Rattle.unicode_xid.specs.Pieces.{cut_from, piece_order, piece_between}
+use Rattle.unicode_xid.specs.Pieces.{cut_from, piece_order, piece_last}
 use Rattle.unicode_xid.proofs.tables.start_7.Statement.{statement}
 use Rattle.unicode_xid.proofs.tables.start_7.Tie as tie
 
 lookup-requires : tie.Need-lookup-requires
 unfolding zip start_ranges
-lookup-requires c κs = (refl, piece_order start_ranges 294 42 start-ordered)
+lookup-requires c κs = (refl, piece_order start_ranges 588 79 start-ordered)
 
 returns : tie.Need-returns
 unfolding zip cut_from start_ranges
-returns c = let x = c.before.before.before.args.c in c.lookup.ensures ∙ piece_between start_ranges 294 42 x start-ordered 0x3131 refl (omega arith) 0xAAB5 refl (omega arith)
+returns c = let x = c.before.before.before.args.c in c.lookup.ensures ∙ piece_last start_ranges 588 79 x start-ordered 0x1D4BD refl (omega arith) refl
 
 pub start_7_spec : {M : Type 1} → statement M
 start_7_spec = tie.close (tie.spec (λ c. search rules) (λ c. search rules) lookup-requires returns)
