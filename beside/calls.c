@@ -1,6 +1,6 @@
 /* Calls each C function and compares with what include/teykonasir.h says: that the header fits the archive is proved nowhere. From the
  * repository's root, on x86-64:
- *   rt staticlib teykonasir && rt staticlib teykonasir_sheet && rt staticlib teykonasir_read
+ *   tools/archives
  *   cc -Iinclude beside/calls.c target/staticlib/lib*.a -o target/calls && target/calls
  */
 #include <inttypes.h>

@@ -1,8 +1,7 @@
 //! Finds the three archives of the proved functions and links them: the files that TEYK_ARCHIVE, TEYK_SHEET_ARCHIVE and TEYK_READ_ARCHIVE name (with the
-//! first alone, libteykonasir_sheet.a and libteykonasir_read.a beside it), or those that `rt staticlib` makes in the repository that this crate stands in.
+//! first alone, libteykonasir_sheet.a and libteykonasir_read.a beside it), or those that `tools/archives` makes in the repository that this crate stands in.
 use std::env;
 use std::fs;
-use std::io::ErrorKind;
 use std::path::{Path, PathBuf};
 use std::process::{exit, Command};
 
@@ -39,22 +38,41 @@ fn given(name: &str, named: &str) -> Option<PathBuf> {
     env::var_os(named).map(PathBuf::from).or_else(|| env::var_os(ARCHIVES[0].1).map(beside))
 }
 
+/// What tools/archives ends with where there is no rt on the path.
+const NO_RT: i32 = 127;
+
 /// The archive of the repository, made anew where its sources changed.
 fn made(root: &Path, name: &str) -> PathBuf {
     if !root.join("crates.txt").is_file() {
         stop("this crate stands outside its repository: set TEYK_ARCHIVE to the archive libteykonasir.a");
     }
-    println!("cargo:rerun-if-changed={}", root.join("crates").display());
-    println!("cargo:rerun-if-changed={}", root.join("crates.txt").display());
+    sources(root);
     let archive = root.join("target/staticlib").join(file_name(name));
-    match Command::new("rt").args(["staticlib", name]).current_dir(root).output() {
+    match Command::new(root.join("tools/archives")).arg(name).output() {
         Ok(said) if said.status.success() => archive,
-        Ok(said) => stop(&format!("`rt staticlib {}` failed:\n{}{}", name, String::from_utf8_lossy(&said.stdout), String::from_utf8_lossy(&said.stderr))),
-        Err(e) if e.kind() == ErrorKind::NotFound && archive.is_file() => {
+        Ok(said) if said.status.code() == Some(NO_RT) && archive.is_file() => {
             println!("cargo:warning=no rt on the path: {} is linked as it stands", archive.display());
             archive
         }
-        Err(e) => stop(&format!("rt is not to be run ({}) and there is no {}: put rt on the path, or set TEYK_ARCHIVE to an archive", e, archive.display())),
+        Ok(said) if said.status.code() == Some(NO_RT) => {
+            stop(&format!("no rt on the path, and there is no {}: put rt on the path, or set TEYK_ARCHIVE to an archive", archive.display()))
+        }
+        Ok(said) => stop(&format!("`tools/archives {}` failed:\n{}{}", name, String::from_utf8_lossy(&said.stdout), String::from_utf8_lossy(&said.stderr))),
+        Err(e) => stop(&format!("tools/archives is not to be run: {}", e)),
+    }
+}
+
+/// Tells Cargo the sources of all crates; what rt keeps beside them, in out/, is none of them.
+fn sources(root: &Path) {
+    println!("cargo:rerun-if-changed={}", root.join("crates.txt").display());
+    let crates = fs::read_dir(root.join("crates")).unwrap_or_else(|e| stop(&format!("no crates/: {}", e)));
+    for folder in crates.flatten() {
+        for part in ["src", "specs", "proofs"] {
+            let part = folder.path().join(part);
+            if part.is_dir() {
+                println!("cargo:rerun-if-changed={}", part.display());
+            }
+        }
     }
 }
 

@@ -1,5 +1,5 @@
 /* The listing of standard input, as `teyk list` prints it, over the C functions. From the repository's root, on x86-64:
- *   rt staticlib teykonasir && cc -O2 -Iinclude examples/c/listing.c target/staticlib/libteykonasir.a -o target/listing-c
+ *   tools/archives teykonasir && cc -O2 -Iinclude examples/c/listing.c target/staticlib/libteykonasir.a -o target/listing-c
  *
  * There is room for ROOM records at a time: a run that stopped for want of room is taken up again where it stood.
  */

@@ -1,7 +1,7 @@
 //! The proved tokenizer of LALRPOP grammars.
 //!
-//! Every function calls one of the archives that the repository makes (`rt staticlib teykonasir`, for [`Sheet`] `rt staticlib teykonasir_sheet`, for [`read`]
-//! `rt staticlib teykonasir_read`), which is proved to answer what its contract says for all texts; this crate lends it slices and gives the numbers names. It
+//! Every function calls one of the archives that the repository makes (`tools/archives teykonasir`, for [`Sheet`] `tools/archives teykonasir_sheet`, for [`read`]
+//! `tools/archives teykonasir_read`), which is proved to answer what its contract says for all texts; this crate lends it slices and gives the numbers names. It
 //! takes no memory that it is not asked for: [`run`], [`resume`], [`read`], [`expand_into`], [`ltk_read_into`] and [`ltk_write_into`] fill lent slices, the
 //! others make what they answer.
 //!

@@ -3,7 +3,6 @@ use Rattle.std.specs.Prelude.{◌+◌, ℕ, cond, List, [], ◌∷◌, eqb, ltb,
 use Rattle.record.specs.Numbers.{code_number}
 use Rattle.record.specs.declared.Checked.{Checked}
 use Rattle.record.specs.declared.Checked.TheVariants.{Passed, Refused as Stopped}
-use Rattle.record.specs.declared.Refusal.{Refusal}
 use Rattle.escapes.specs.Answers.{Done, applied, part_check, part_of}
 use Rattle.escapes.specs.declared.Expanded.{Expanded}
 use Rattle.escapes.specs.declared.Expanded.TheVariants.{Part as APart, Refused}

@@ -15,10 +15,11 @@ use Rattle.reading.specs.declared.Tokenizer.{Tokenizer}
 use Rattle.reading.specs.declared.What.TheVariants.{Got}
 use Rattle.run.specs.Checked.{whole_run}
 use Rattle.run.specs.declared.Ran.{Ran}
-use Rattle.ledger.specs.Answered.{SaysIn, has_payload, next_says}
+use Rattle.ledger.proofs.Answered.{next_says}
+use Rattle.ledger.specs.Answered.{SaysIn, has_payload}
 use Rattle.ledger.specs.Books.{held}
 use Rattle.ledger.specs.Order.{Called, called, found}
-use Rattle.callers.specs.Contracts.{Nexts, RunsFrom}
+use Rattle.callers.specs.PublicCalls.{Nexts, RunsFrom}
 use Rattle.callers.specs.Single.{delivered}
 
 -- a token whose kind has no payload has both payload places at its start; `has_payload` (ledger/specs/Answered) names the eleven kinds that have one

@@ -1,6 +1,6 @@
 -- A single call leaves the cursor on a boundary, if it was on one.
 use Rattle.std.specs.Prelude.{ℕ, true, List, ◌≡◌}
-use Rattle.utf8.specs.Laws.{boundary-whole, bounded}
+use Rattle.utf8.proofs.Laws.{boundary-whole, bounded}
 use Rattle.utf8.specs.Utf8.{boundary}
 use Rattle.record.specs.Allowed.{allowed}
 use Rattle.record.specs.Checks.{checks}
@@ -8,10 +8,10 @@ use Rattle.record.specs.declared.Checked.TheVariants.{Passed}
 use Rattle.record.specs.declared.Reading.{Reading}
 use Rattle.scan.specs.Far.{Far}
 use Rattle.scan.specs.Until.{left}
-use Rattle.reading.specs.CallLaw.{LaidIn, next-laid}
+use Rattle.reading.proofs.CallLaw.{LaidIn, next-laid}
 use Rattle.reading.specs.Next.{next}
 use Rattle.reading.specs.Passes.{gap_sound}
-use Rattle.reading.specs.Sums.{placed_far}
+use Rattle.reading.proofs.Sums.{placed_far}
 use Rattle.reading.specs.declared.Tokenizer.{Tokenizer}
 use Rattle.reading.specs.declared.What.{What}
 use Rattle.reading.specs.declared.What.TheVariants.{End, Error, Got}

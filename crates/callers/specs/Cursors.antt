@@ -1,7 +1,8 @@
 -- EVERY CURSOR THAT A CALL LEAVES IS ON A BOUNDARY OF ITS TEXT: of `run::next`, of `run::run`, and so of every tokenizer that a caller has.
 use Rattle.std.specs.Prelude.{ℕ, true, List, ◌≡◌, refl, length}
 use Rattle.std.proofs.Common.{arith}
-use Rattle.utf8.specs.Laws.{bounded, valid_whole}
+use Rattle.utf8.proofs.Laws.{bounded}
+use Rattle.utf8.specs.Laws.{valid_whole}
 use Rattle.utf8.specs.Utf8.{boundary}
 use Rattle.record.specs.Allowed.{allowed}
 use Rattle.record.specs.Checks.{checks}
@@ -16,7 +17,7 @@ use Rattle.run.specs.Checked.{next_token}
 use Rattle.run.specs.declared.Ran.{Ran}
 use Rattle.ledger.specs.Books.{held}
 use Rattle.callers.specs.Boundaries.{next-boundary}
-use Rattle.callers.specs.Contracts.{Kept, Nexts, RunsFrom, called, fresh, ran}
+use Rattle.callers.specs.PublicCalls.{Kept, Nexts, RunsFrom, called, fresh, ran}
 use Rattle.callers.specs.Repeated.{Calls, Last, answers, full, none, one, repeated}
 
 -- ---- what every single call keeps, every run keeps, and every tokenizer that a caller has

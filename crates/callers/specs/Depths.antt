@@ -18,13 +18,13 @@ use Rattle.record.specs.declared.Told.{Told}
 use Rattle.record.specs.declared.Told.TheVariants.{Is}
 use Rattle.scan.specs.Far.{after, far_left, then}
 use Rattle.scan.specs.Until.{left}
-use Rattle.code.specs.Code.{code_depth}
-use Rattle.reading.specs.CallLaw.{LaidIn, next-laid}
-use Rattle.reading.specs.Gaps.{gap_depth}
+use Rattle.code.specs.Code.{code_depth_of}
+use Rattle.reading.proofs.CallLaw.{LaidIn, next-laid}
+use Rattle.reading.specs.Gaps.{gap_depth_of}
 use Rattle.reading.specs.Measures.{tail_of}
 use Rattle.reading.specs.Next.{next}
 use Rattle.reading.specs.Run.{Run, run, run_from, run_from_with, run_with, shift_token, shift_what, step, stopped}
-use Rattle.reading.specs.Story.{again_end, again_error, call, run_end, run_error, run_full, run_got, step-on, step-over}
+use Rattle.reading.proofs.Story.{again_end, again_error, call, run_end, run_error, run_full, run_got, step-on, step-over}
 use Rattle.reading.specs.declared.Outcome.{Outcome}
 use Rattle.reading.specs.declared.Outcome.TheVariants.{Ended, Refused, Running}
 use Rattle.reading.specs.declared.Stepped.{Stepped}
@@ -38,7 +38,7 @@ use Rattle.spans.specs.Depths.{Layers, gap_layers}
 use Rattle.ledger.specs.Books.{held}
 use Rattle.ledger.specs.Levels.{code-told, flat-told, gap-told, last-told, takes_code}
 use Rattle.ledger.specs.Order.{Called, called, found, placed}
-use Rattle.callers.specs.Contracts.{Nexts, RunsFrom}
+use Rattle.callers.specs.PublicCalls.{Nexts, RunsFrom}
 use Rattle.callers.specs.Single.{delivered}
 
 -- a token after a gap from the place at on: the gap's characters, the place after them, where the token starts, and their depth, which the token tells
@@ -49,7 +49,7 @@ pub record GapTold (s : List ℕ) (shift at : ℕ) (t : Token) : Type 0 where
   pub stands : left s at ≡ chars ++ left s place
   pub start : t.start ≡ place + shift
   pub layers : Layers (left s place) chars depth
-  pub told : t.gap_depth_lem ≡ Is depth
+  pub told : t.gap_depth ≡ Is depth
 
 -- where the gap after a token starts: at its end, or, in the old reading, past the character that is dropped after an attribute
 abbrev pub gap_from : Reading → List ℕ → Kind → ℕ → ℕ
@@ -69,8 +69,8 @@ last_from rd s shift at (t ∷ ts) = last_from rd s shift (gap_from rd s t.kind 
 pub record CodeTold (rd : Reading) (s : List ℕ) (shift : ℕ) (t : Token) : Type 0 where
   pub place : ℕ
   pub from : t.payload_start ≡ place + shift
-  pub code : takes_code t.kind ≡ true → t.code_depth_lem ≡ Is (code_depth rd (left s place) place)
-  pub flat : takes_code t.kind ≡ false → t.code_depth_lem ≡ Is 0
+  pub code : takes_code t.kind ≡ true → t.code_depth ≡ Is (code_depth_of rd (left s place) place)
+  pub flat : takes_code t.kind ≡ false → t.code_depth ≡ Is 0
 
 abbrev pub AllCodes : Reading → List ℕ → ℕ → List Token → Type 0
 AllCodes rd s shift [] = Unit {0}
@@ -86,7 +86,7 @@ module _ (rd : Reading) (s : List ℕ) (shift at : ℕ) (t : Token) (got : (next
       record {
         chars = take m (left s at);
         place = t.start;
-        depth = gap_depth (left s at) at;
+        depth = gap_depth_of (left s at) at;
         stands = sym (take-append-drop m (left s at)) ∙ ap (λ (l : List ℕ). take m (left s at) ++ l) e;
         start = refl;
         layers = rw e at (gap_layers (left s at) at t.start m h.gap_is);
@@ -123,12 +123,12 @@ no-running : {A : Type 0} → Running ≡ Ended → A
 no-running e = let w : ◌≡◌ {A = ℕ} 0 1 = cc in absurd (omega arith)
 
 -- a call that answers the end passes all that is left
-end_layers : (rd : Reading) (s : List ℕ) (at p n : ℕ) (w : What) → w ≡ End → LaidIn rd (left s at) at p n w → Layers [] (left s at) (gap_depth (left s at) at)
+end_layers : (rd : Reading) (s : List ℕ) (at p n : ℕ) (w : What) → w ≡ End → LaidIn rd (left s at) at p n w → Layers [] (left s at) (gap_depth_of (left s at) at)
 end_layers rd s at p n (Got t) e h = let q : ◌≡◌ {A = ℕ} 0 1 = cc in absurd (omega arith)
 end_layers rd s at p n (Error z) e h = let q : ◌≡◌ {A = ℕ} 0 1 = cc in absurd (omega arith)
 end_layers rd s at p n End e h =
-    let l : Layers (drop n (left s at)) (take n (left s at)) (gap_depth (left s at) at) = gap_layers (left s at) at p n h.0 in
-    let l' : Layers (drop (length (left s at)) (left s at)) (take (length (left s at)) (left s at)) (gap_depth (left s at) at) = rw h.1 at l in
+    let l : Layers (drop n (left s at)) (take n (left s at)) (gap_depth_of (left s at) at) = gap_layers (left s at) at p n h.0 in
+    let l' : Layers (drop (length (left s at)) (left s at)) (take (length (left s at)) (left s at)) (gap_depth_of (left s at) at) = rw h.1 at l in
     rw (drop-length (left s at), take-length (left s at)) at l'
 
 module _ (s : List ℕ) (shift limit : ℕ) where
@@ -151,8 +151,8 @@ module _ (s : List ℕ) (shift limit : ℕ) where
       by_end : (call s shift limit t).what ≡ End → Turned
       unfolding call
       by_end v =
-          let g : (step s shift limit t).gap_depth_lem ≡ gap_depth (left s t.at) t.at =
-          ap (λ (x : Stepped). x.gap_depth_lem) (step-on s shift limit t d on) ∙ last-told t.reading s t.at v in
+          let g : (step s shift limit t).gap_depth ≡ gap_depth_of (left s t.at) t.at =
+          ap (λ (x : Stepped). x.gap_depth) (step-on s shift limit t d on) ∙ last-told t.reading s t.at v in
           let h = end_layers t.reading s t.at _ _ (next t.reading (left s t.at) t.at).what v (next-laid t.reading (left s t.at) t.at).is in
           rw (run_end s shift limit k room t (what_is End v)) (λ _. rw g h)
 
@@ -272,6 +272,6 @@ module _ (s : List ℕ) (shift limit : ℕ) (t : Tokenizer) (y : Token) (u : Tok
 
 -- "and the writers accept either": what the LTK writer takes of a record is the same whatever that tells of depths
 pub either_written : (g d : Told) (t : Token)
-    → entry_of (record { kind = t.kind; start = t.start; end = t.end; payload_start = t.payload_start; payload_end = t.payload_end; gap_depth_lem = g; code_depth_lem = d })
+    → entry_of (record { kind = t.kind; start = t.start; end = t.end; payload_start = t.payload_start; payload_end = t.payload_end; gap_depth = g; code_depth = d })
     ≡ entry_of t
 either_written g d t = refl

@@ -1,11 +1,10 @@
 -- AFTER THE END the tokenizer's cursor is the text's length, of every tokenizer that a caller has.
 use Rattle.std.specs.Prelude.{ℕ, List, ◌≡◌, refl, length}
-use Rattle.std.proofs.Common.{arith, sym, ap, ◌∙◌}
+use Rattle.std.proofs.Common.{arith, ◌∙◌}
 use Rattle.record.specs.declared.Reading.{Reading}
-use Rattle.record.specs.declared.Token.{Token}
 use Rattle.scan.specs.Far.{Far}
 use Rattle.scan.specs.Until.{left}
-use Rattle.reading.specs.CallLaw.{LaidIn, next-laid}
+use Rattle.reading.proofs.CallLaw.{LaidIn, next-laid}
 use Rattle.reading.specs.Next.{next}
 use Rattle.reading.specs.Passes.{gap_sound}
 use Rattle.reading.specs.Run.{done_by, shift_what}
@@ -15,13 +14,11 @@ use Rattle.reading.specs.declared.Tokenizer.{Tokenizer}
 use Rattle.reading.specs.declared.What.{What}
 use Rattle.reading.specs.declared.What.TheVariants.{End, Error, Got}
 use Rattle.run.specs.Checked.{next_token}
-use Rattle.run.specs.declared.Ran.{Ran}
 use Rattle.ledger.specs.Payloads.{On}
 use Rattle.callers.specs.Boundaries.{on_of}
-use Rattle.callers.specs.Contracts.{Kept, Nexts, RunsFrom, called, ran}
+use Rattle.callers.specs.PublicCalls.{Kept}
 use Rattle.callers.specs.Cursors.{by_kept}
 use Rattle.callers.specs.Single.{Single, call_of, end_kept, error_kept, limited, off, read, refused, single}
-use Rattle.callers.specs.Repeating.{next_settled, run_settled}
 
 -- ---- a call of the reading that answers the end has passed all that was left
 module _ (rd : Reading) (s : List ℕ) (at : ℕ) (o : On s at) where
@@ -59,15 +56,3 @@ next-at s shift limit t h = go (single s shift limit t)
 -- ---- THE THEOREMS
 pub kept-end : (s : List ℕ) {t : Tokenizer} → Kept s t → t.done ≡ Ended → t.at ≡ length s
 kept-end s k = by_kept s (AtEnd s) (next-at s) (λ rd e. let q : ◌≡◌ {A = ℕ} 0 1 = cc in absurd (omega arith)) k
-
-module _ (s : List ℕ) (shift limit : ℕ) (t : Tokenizer) (k : Kept s t) where
-  -- of a single call that answers the end
-  pub next-end : (u : Tokenizer) → Nexts s shift limit t End u → u.at ≡ length s
-  next-end u c =
-      let f : done_by (next_token s shift limit t).what ≡ Ended = ap (λ (w : What). done_by w) (sym c.0) in
-      let d = next_settled s shift limit t (rw f refl) in
-      kept-end s (called {r = End} shift limit k c) (ap (λ (x : Tokenizer). x.done) c.1 ∙ d.is ∙ f)
-
-  -- and of a run
-  pub run_end : (before : List Token) (r : Ran) (after : List Token) → RunsFrom s shift limit t before r after → r.how ≡ Ended → r.state.at ≡ length s
-  run_end before r after c e = kept-end s (ran shift limit before after k c) ((run_settled s shift limit t before r after c (rw e refl)).is ∙ e)

@@ -1,12 +1,11 @@
 -- 14 AND 15, EXACTLY. 01: "15 is given exactly when finishing the next call (token, error or end) would take total advances above the work limit. 14 is given
 -- exactly when the next call yields a token and the list is full; an error or the end is reported with a full list. If both apply, 15."
 use Rattle.std.specs.Prelude.{ℕ, ◌+◌, ◌≤◌, ◌<◌, Bool, List, [], ◌∷◌, refl, eqb}
-use Rattle.std.proofs.Common.{arith, ◌∙◌, ltb-false, ltb-true}
+use Rattle.std.proofs.Common.{arith, ◌∙◌, ltb-false}
 use Rattle.std.proofs.Math.Bool.{false, true}
 use Rattle.std.proofs.Math.Path.{◌≡◌, sym, ap}
 use Rattle.std.proofs.Math.ListN.{length}
-use Rattle.record.specs.Checks.{checks}
-use Rattle.record.specs.Codes.{Apart, OneOf, Refuses, among, checks-refuse, each}
+use Rattle.record.specs.Codes.{Apart, among, each}
 use Rattle.record.specs.Numbers.{code_number}
 use Rattle.record.specs.Records.{refusal}
 use Rattle.record.specs.declared.Code.{Code}
@@ -18,16 +17,14 @@ use Rattle.reading.specs.declared.Outcome.TheVariants.{Ended, Refused, Running}
 use Rattle.reading.specs.declared.Stepped.{Stepped}
 use Rattle.reading.specs.declared.Tokenizer.{Tokenizer}
 use Rattle.reading.specs.declared.What.{What}
-use Rattle.reading.specs.declared.What.TheVariants.{End, Error, Got}
+use Rattle.reading.specs.declared.What.TheVariants.{Error, Got}
 use Rattle.run.specs.Checked.{next_token, ran_with}
 use Rattle.run.specs.declared.Ran.{Ran}
 use Rattle.ledger.specs.Books.{held}
 use Rattle.ledger.specs.Order.{found}
-use Rattle.callers.specs.Codes.{DoneBy, kept_done, never_codes, next_never, not_reading, read-not, reading_codes}
-use Rattle.callers.specs.Contracts.{Kept, Nexts, RunsFrom}
-use Rattle.callers.specs.Single.{Single, Stands, call_of, end_kept, error_kept, error_at, limited, off, read, refused, single}
-use Rattle.callers.specs.Cursors.{reached-kept}
-use Rattle.callers.specs.Refusals.{said_error}
+use Rattle.callers.specs.Codes.{never_codes, reading_codes}
+use Rattle.callers.specs.PublicCalls.{Nexts, RunsFrom}
+use Rattle.callers.specs.Single.{Single, Stands, call_of, end_kept, error_kept, limited, off, read, refused, single}
 use Rattle.callers.specs.Repeated.{Calls, Last, answers, full, none, one, repeated}
 
 -- finishing the next call would take the total advances above the work limit
@@ -56,54 +53,11 @@ pub record Limited (s : List ℕ) (shift limit : ℕ) (t : Tokenizer) (z : Refus
   pub above : Above s limit t
   pub place : z.place ≡ t.at + shift
 
-apart : Apart reading_codes (15 ∷ [])
+pub apart : Apart reading_codes (15 ∷ [])
 unfolding among each
 apart = refl
 
-fifteen : (s : List ℕ) (shift limit : ℕ) (t : Tokenizer) (z : Refusal) → Kept s t → OneOf (15 ∷ []) z.code → (next_token s shift limit t).what ≡ Error z
-    → Limited s shift limit t z × ((next_token s shift limit t).next ≡ t)
-unfolding among
-fifteen s shift limit t z k o w = go (single s shift limit t) (checks-refuse (λ c. among (code_number c) (15 ∷ []) ≡ false) refl refl refl s shift) (kept_done s k)
-  where
-    other : (x : Refusal) → among (code_number x.code) (15 ∷ []) ≡ false → next_token s shift limit t ≡ error_at t x → Limited s shift limit t z × ((next_token s shift limit t).next ≡ t)
-    other x h e =
-        let v : Error x ≡ Error z = rw e at w in
-        let q : x.code ≡ z.code = cc in
-        let f : true ≡ false = sym o ∙ rw q at h in
-        let n : ◌≡◌ {A = ℕ} 0 1 = cc in
-        absurd (omega arith)
-
-    go : Single s shift limit t (next_token s shift limit t) → Refuses (λ (c : Code). among (code_number c) (15 ∷ []) ≡ false) (checks s shift) → DoneBy t.done
-        → Limited s shift limit t z × ((next_token s shift limit t).next ≡ t)
-    go (refused x p e) h d = other x (rw p at h.is) e
-    go (off p n e) h d = other _ refl e
-    go (error_kept x v e) h d =
-        let g : Error x ≡ Error z = rw e at w in
-        let q : z ≡ x = cc in
-        absurd (not_reading (15 ∷ []) apart x.code (rw v.is at d) (rw q at o))
-    go (end_kept v e) h d = let g : End ≡ Error z = rw e at w in let n : ◌≡◌ {A = ℕ} 0 1 = cc in absurd (omega arith)
-    go (limited v l e) h d =
-        let g : Error (refusal WorkLimit (t.at + shift)) ≡ Error z = rw e at w in
-        let q : refusal WorkLimit (t.at + shift) ≡ z = cc in
-        (record { stands = v; above = ltb-true limit (t.count + (call_of s t).advances) l; place = ap (λ (x : Refusal). x.place) (sym q) }, rw e)
-    go (read v l e) h d = absurd (read-not (15 ∷ []) apart s shift t z (rw e at w) o)
-
--- a call that yields a token is within the limit
-not-above : (s : List ℕ) (shift limit : ℕ) (u : Tokenizer) (y : Token) → (next_token s shift limit u).what ≡ Got y → Above s limit u → ⊥
-not-above s shift limit u y g a = go (single s shift limit u)
-  where
-    error : (z : Refusal) → next_token s shift limit u ≡ error_at u z → ⊥
-    error z e = let f : Error z ≡ Got y = rw e at g in let w : ◌≡◌ {A = ℕ} 0 1 = cc in omega arith
-
-    go : Single s shift limit u (next_token s shift limit u) → ⊥
-    go (refused z c e) = error z e
-    go (off c n e) = error _ e
-    go (error_kept z k e) = error z e
-    go (end_kept k e) = let f : End ≡ Got y = rw e at g in let w : ◌≡◌ {A = ℕ} 0 1 = cc in omega arith
-    go (limited k l e) = error _ e
-    go (read k l e) = let m = ltb-false limit (u.count + (call_of s u).advances) l in omega arith
-
-fourteen_too : (c : Code) → among (code_number c) (14 ∷ never_codes) ≡ false → among (code_number c) (14 ∷ []) ≡ false
+pub fourteen_too : (c : Code) → among (code_number c) (14 ∷ never_codes) ≡ false → among (code_number c) (14 ∷ []) ≡ false
 unfolding among
 fourteen_too c e = go (eqb (code_number c) 14) refl
   where
@@ -111,53 +65,9 @@ fourteen_too c e = go (eqb (code_number c) 14) refl
     go true q = let f : true ≡ false = rw q at e in let w : ◌≡◌ {A = ℕ} 0 1 = cc in absurd (omega arith)
     go false q = rw q
 
-stored-held : (s : List ℕ) (shift limit : ℕ) (t : Tokenizer) (before : List Token) (r : Ran) (after : List Token) → RunsFrom s shift limit t before r after → r.stored ≡ length (held r after)
+pub stored-held : (s : List ℕ) (shift limit : ℕ) (t : Tokenizer) (before : List Token) (r : Ran) (after : List Token) → RunsFrom s shift limit t before r after → r.stored ≡ length (held r after)
 unfolding ran_with
 stored-held s shift limit t before r after c = ap (λ (x : Ran). x.stored) c.0 ∙ ap length (sym (found s shift limit before after t r c))
-
--- ---- THE THEOREMS, of a single call and of a run from a tokenizer that a caller has
-module _ (s : List ℕ) (shift limit : ℕ) (t : Tokenizer) (k : Kept s t) (z : Refusal) where
-  pub next_fifteen : (u : Tokenizer) → Nexts s shift limit t (Error z) u → OneOf (15 ∷ []) z.code → Limited s shift limit t z × (u ≡ t)
-  next_fifteen u c o = let h = fifteen s shift limit t z k o (sym c.0) in (h.0, c.1 ∙ h.1)
-
-  module _ (before : List Token) (r : Ran) (after : List Token) (c : RunsFrom s shift limit t before r after) (how : r.how ≡ Refused z) where
-    -- 15: finishing the next call, from the tokenizer that is left, would take the total above the limit
-    pub run_fifteen : OneOf (15 ∷ []) z.code → Limited s shift limit r.state z
-    unfolding among
-    run_fifteen o = let d = repeated s shift limit t before r after c in go d.reached (reached-kept s shift limit d.calls k) d.last
-      where
-        go : (u : Tokenizer) → Kept s u → Last s shift limit (length before) u (length (held r after)) r.how r.state → Limited s shift limit r.state z
-        go u k' (full y e l h q) =
-            let v : z.code ≡ NoRoom = cc in
-            let x : false ≡ true = rw v at o in
-            let n : ◌≡◌ {A = ℕ} 0 1 = cc in
-            absurd (omega arith)
-        go u k' (answers f h q) =
-            let x = fifteen s shift limit u z k' o (said_error (next_token s shift limit u).what r.how z h how) in
-            rw (q, x.1) x.0
-
-    -- 14: the list is full, the next call yields a token, whose start is the place, and finishing it would not take the total above the limit
-    pub run_fourteen : OneOf (14 ∷ []) z.code
-        → (r.stored ≡ length before) × (y : Token) × ((next_token s shift limit r.state).what ≡ Got y) × (z.place ≡ y.start) × (Above s limit r.state → ⊥)
-    unfolding among
-    run_fourteen o = let d = repeated s shift limit t before r after c in go d.reached (reached-kept s shift limit d.calls k) d.last
-      where
-        go : (u : Tokenizer) → Kept s u → Last s shift limit (length before) u (length (held r after)) r.how r.state
-            → (r.stored ≡ length before) × (y : Token) × ((next_token s shift limit r.state).what ≡ Got y) × (z.place ≡ y.start) × (Above s limit r.state → ⊥)
-        go u k' (full y e l h q) =
-            let v : refusal NoRoom y.start ≡ z = cc in (
-              stored-held s shift limit t before r after c ∙ l,
-              y,
-              rw q e,
-              ap (λ (x : Refusal). x.place) (sym v),
-              rw q (λ a. not-above s shift limit u y e a),
-            )
-        go u k' (answers f h q) =
-            let w = said_error (next_token s shift limit u).what r.how z h how in
-            let x = next_never s shift limit u k' z (next_token s shift limit u).next (sym w, refl) in
-            let g : false ≡ true = sym (fourteen_too z.code x) ∙ o in
-            let n : ◌≡◌ {A = ℕ} 0 1 = cc in
-            absurd (omega arith)
 
 -- ---- and 14 wherever the list is full and the next call yields a token. Calls from one tokenizer go one way
 pub data Beside (s : List ℕ) (shift limit : ℕ) (ts ts' : List Token) (u u' : Tokenizer) : Type 0 where

@@ -1,9 +1,8 @@
 -- what a reader must believe: the contracts of the calls, and what a caller has after any number of them
-pub mod Contracts
+pub mod PublicCalls
 pub mod Single
 pub mod Cursors
 pub mod Readings
-pub mod Repeating
 pub mod TakingUp
 pub mod Spans
 pub mod Bare
@@ -14,7 +13,6 @@ pub mod Refusals
 pub mod Exactly
 pub mod Lists
 pub mod Codes
-pub mod Books
 pub mod Reads
 pub mod Numbers
 pub mod Examples

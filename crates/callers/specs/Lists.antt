@@ -6,7 +6,7 @@ use Rattle.record.specs.declared.Token.{Token}
 use Rattle.reading.specs.declared.Tokenizer.{Tokenizer}
 use Rattle.run.specs.Checked.{ran_with, whole_run}
 use Rattle.run.specs.declared.Ran.{Ran}
-use Rattle.callers.specs.Contracts.{RunsFrom}
+use Rattle.callers.specs.PublicCalls.{RunsFrom}
 use Rattle.callers.specs.Repeated.{tells}
 
 module _ (s : List ℕ) (shift limit : ℕ) (t : Tokenizer) (before : List Token) (r : Ran) (after : List Token) (c : RunsFrom s shift limit t before r after) where

@@ -11,7 +11,7 @@ use Rattle.run.specs.Numbers.{group_size, numbers_all}
 use Rattle.run.specs.declared.Ran.{Ran}
 use Rattle.ledger.specs.Books.{held}
 use Rattle.ledger.specs.Order.{found}
-use Rattle.callers.specs.Contracts.{Kept, RunsFrom, ran}
+use Rattle.callers.specs.PublicCalls.{Kept, RunsFrom, ran}
 
 -- the contract of `run::run_numbers` from the tokenizer t, word for word
 abbrev pub RunsNumbersFrom : List ℕ → ℕ → ℕ → Tokenizer → List ℕ → Ran → List ℕ → Type 0

@@ -7,7 +7,7 @@ use Rattle.reading.specs.declared.Tokenizer.{Tokenizer}
 use Rattle.reading.specs.declared.What.{What}
 use Rattle.run.specs.Checked.{next_token}
 use Rattle.run.specs.declared.Ran.{Ran}
-use Rattle.callers.specs.Contracts.{Nexts, RunsFrom}
+use Rattle.callers.specs.PublicCalls.{Nexts, RunsFrom}
 use Rattle.callers.specs.Cursors.{by_run}
 use Rattle.callers.specs.Single.{Single, end_kept, error_kept, limited, off, read, refused, single}
 

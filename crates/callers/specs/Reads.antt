@@ -11,7 +11,7 @@ use Rattle.reading.specs.declared.What.TheVariants.{Got}
 use Rattle.run.specs.Checked.{next_token}
 use Rattle.run.specs.declared.Ran.{Ran}
 use Rattle.ledger.specs.Books.{held}
-use Rattle.callers.specs.Contracts.{Nexts, RunsFrom}
+use Rattle.callers.specs.PublicCalls.{Nexts, RunsFrom}
 use Rattle.callers.specs.Repeated.{Calls, Last, answers, counts, full, none, one, repeated}
 
 -- Calls of `run::next`, until one answers no token: from the tokenizer t the tokens ts, then the answer r, with the tokenizer left at u.

@@ -13,7 +13,7 @@ use Rattle.record.specs.declared.Code.TheVariants.{BadRecord, NoRoom}
 use Rattle.record.specs.declared.Refusal.{Refusal}
 use Rattle.record.specs.declared.Token.{Token}
 use Rattle.reading.specs.Run.{Run, also, done_by, run, run_from, run_from_with, run_with, step, stopped}
-use Rattle.reading.specs.Story.{run_end, run_error, run_full, run_got}
+use Rattle.reading.proofs.Story.{run_end, run_error, run_full, run_got}
 use Rattle.reading.specs.declared.Outcome.{Outcome}
 use Rattle.reading.specs.declared.Outcome.TheVariants.{Ended, Refused, Running}
 use Rattle.reading.specs.declared.Stepped.{Stepped}
@@ -27,7 +27,7 @@ use Rattle.run.specs.declared.Ran.{Ran}
 use Rattle.ledger.specs.Books.{held}
 use Rattle.ledger.specs.Order.{found}
 use Rattle.callers.specs.Boundaries.{next-boundary}
-use Rattle.callers.specs.Contracts.{RunsFrom}
+use Rattle.callers.specs.PublicCalls.{RunsFrom}
 
 -- Calls one after the other, each answering a token: from the tokenizer t the tokens ts, to the tokenizer u.
 pub data Calls (s : List ℕ) (shift limit : ℕ) : Tokenizer → List Token → Tokenizer → Type 0 where
@@ -110,7 +110,7 @@ module _ (s : List ℕ) (shift limit : ℕ) where
             (at_once room t _ (Error z) (Refused z) 0 (ap (λ (x : Stepped). x.what) same ∙ e) (ap (λ (x : Stepped). x.next) same) (no_got z) refl)
         go ih End e =
             rw (run_end s shift limit k room t e)
-            (at_once room t _ End Ended (step s shift limit t).gap_depth_lem (ap (λ (x : Stepped). x.what) same ∙ e) (ap (λ (x : Stepped). x.next) same) no_end refl)
+            (at_once room t _ End Ended (step s shift limit t).gap_depth (ap (λ (x : Stepped). x.what) same ∙ e) (ap (λ (x : Stepped). x.next) same) no_end refl)
 
   -- of every run, refused by the checks or read
   pub tells : (room : ℕ) (t : Tokenizer) → TellsOf s shift limit room t (whole_run s shift limit room t)

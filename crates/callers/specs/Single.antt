@@ -20,7 +20,7 @@ use Rattle.reading.specs.declared.Tokenizer.{Tokenizer}
 use Rattle.reading.specs.declared.What.{What}
 use Rattle.reading.specs.declared.What.TheVariants.{End, Error, Got}
 use Rattle.run.specs.Checked.{next_token, next_token_with}
-use Rattle.callers.specs.Contracts.{Nexts}
+use Rattle.callers.specs.PublicCalls.{Nexts}
 
 -- a text that passed the checks, and a tokenizer with its cursor on a boundary, done as is said
 pub record Stands (s : List ℕ) (shift : ℕ) (done : Outcome) (t : Tokenizer) : Type 0 where
@@ -34,14 +34,14 @@ call_of s t = next t.reading (left s t.at) t.at
 
 -- an answer that leaves the tokenizer as it is
 abbrev pub error_at : Tokenizer → Refusal → Stepped
-error_at t z = record { what = Error z; next = t; gap_depth_lem = 0 }
+error_at t z = record { what = Error z; next = t; gap_depth = 0 }
 
 -- an answer that was read
 abbrev pub read_by : ℕ → Tokenizer → Call → Stepped
 read_by shift t x = record {
   what = shift_what shift x.what;
   next = record { at = x.at; count = t.count + x.advances; done = done_by (shift_what shift x.what); reading = t.reading };
-  gap_depth_lem = x.gap_depth_lem;
+  gap_depth = x.gap_depth;
 }
 
 pub data Single (s : List ℕ) (shift limit : ℕ) (t : Tokenizer) (x : Stepped) : Type 0 where
@@ -51,7 +51,7 @@ pub data Single (s : List ℕ) (shift limit : ℕ) (t : Tokenizer) (x : Stepped)
   off : checks s shift ≡ Passed → boundary s t.at ≡ false → x ≡ error_at t (refusal BadRecord 0) → Single s shift limit t x
   -- "Once a run has answered an error or the end, further calls repeat it"
   error_kept : (z : Refusal) → Stands s shift (Refused z) t → x ≡ error_at t z → Single s shift limit t x
-  end_kept : Stands s shift Ended t → x ≡ record { what = End; next = t; gap_depth_lem = 0 } → Single s shift limit t x
+  end_kept : Stands s shift Ended t → x ≡ record { what = End; next = t; gap_depth = 0 } → Single s shift limit t x
   -- 15: "when finishing the next call would take total advances above the work limit"
   limited : Stands s shift Running t → ltb limit (t.count + (call_of s t).advances) ≡ true → x ≡ error_at t (refusal WorkLimit (t.at + shift)) → Single s shift limit t x
   -- else the text is read on

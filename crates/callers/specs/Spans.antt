@@ -1,7 +1,7 @@
 -- TOKENS STAND ON BOUNDARIES: both ends of every token that a run stores, less the shift, from any tokenizer. So a span is a part of the text that is well formed.
 use Rattle.std.specs.Prelude.{ℕ, zero, suc, ◌+◌, ◌-◌, ◌≤◌, ◌<◌, true, List, [], ◌∷◌, ◌≡◌, get_or, length}
 use Rattle.std.proofs.Common.{arith}
-use Rattle.utf8.specs.Laws.{boundary-whole, bounded}
+use Rattle.utf8.proofs.Laws.{boundary-whole, bounded}
 use Rattle.utf8.specs.Utf8.{boundary}
 use Rattle.record.specs.declared.Reading.{Reading}
 use Rattle.record.specs.declared.Token.{Token}
@@ -9,7 +9,7 @@ use Rattle.scan.specs.Far.{then}
 use Rattle.scan.specs.Until.{left}
 use Rattle.reading.specs.Next.{next}
 use Rattle.reading.specs.Run.{run, shift_token}
-use Rattle.reading.specs.Sums.{placed_far}
+use Rattle.reading.proofs.Sums.{placed_far}
 use Rattle.reading.specs.declared.Tokenizer.{Tokenizer}
 use Rattle.reading.specs.declared.What.TheVariants.{Got}
 use Rattle.run.specs.Steps.{boundary-within}
@@ -17,7 +17,7 @@ use Rattle.run.specs.declared.Ran.{Ran}
 use Rattle.ledger.specs.Books.{held}
 use Rattle.ledger.specs.Order.{Called, found, of_run, placed}
 use Rattle.ledger.specs.Payloads.{On, on_far}
-use Rattle.callers.specs.Contracts.{RunsFrom}
+use Rattle.callers.specs.PublicCalls.{RunsFrom}
 
 pub record Spanned (s : List ℕ) (shift : ℕ) (t : Token) : Type 0 where
   pub shifted : shift ≤ t.start

@@ -25,7 +25,7 @@ use Rattle.scan.specs.declared.Found.TheVariants.{At, Nothing}
 use Rattle.scan.specs.declared.Skip.{Skip}
 use Rattle.scan.specs.declared.Skip.TheVariants.{Lost, Past}
 use Rattle.reading.specs.Answers.{deliver, more, refuse, told, told_token}
-use Rattle.reading.specs.Gaps.{gap, gap_depth}
+use Rattle.reading.specs.Gaps.{gap, gap_depth_of}
 use Rattle.reading.specs.Next.{next, starts, token, token_or_end}
 use Rattle.reading.specs.Quotes.{string_literal}
 use Rattle.reading.specs.Run.{shift_token}
@@ -36,12 +36,14 @@ use Rattle.reading.specs.declared.Tokenizer.{Tokenizer}
 use Rattle.reading.specs.declared.What.TheVariants.{Error, Got}
 use Rattle.run.specs.Checked.{whole_run}
 use Rattle.run.specs.declared.Ran.{Ran}
-use Rattle.spans.specs.Strings.{ClosedAt, string_found}
-use Rattle.ledger.specs.Answered.{SaysIn, first_says, has_payload, is_string}
+use Rattle.spans.proofs.Strings.{string_found}
+use Rattle.spans.specs.Strings.{ClosedAt}
+use Rattle.ledger.proofs.Answered.{first_says}
+use Rattle.ledger.specs.Answered.{SaysIn, has_payload, is_string}
 use Rattle.ledger.specs.Books.{held}
 use Rattle.ledger.specs.Order.{Called, called, found}
 use Rattle.ledger.specs.Untold.{untold}
-use Rattle.callers.specs.Contracts.{RunsFrom}
+use Rattle.callers.specs.PublicCalls.{RunsFrom}
 
 -- a token that spans a string: where its opening quote stands, the characters after it, and how many of them come before the one that closes it
 pub record Quoted (s : List ℕ) (shift : ℕ) (t : Token) : Type 0 where
@@ -141,7 +143,7 @@ call_quoted rd s shift t at e k = go (gap (left s at) at) refl
     go : (x : Skip) → gap (left s at) at ≡ x → Quoted s shift (shift_token shift t)
     go (Past p m) g =
         let y = token_or_end rd (left s p) p in
-        let u = untold (gap_depth (left s at) at) y.code_depth_lem y.what t (ap (λ (x : Call). x.what) (sym (next-gap rd s at p m g)) ∙ e) in
+        let u = untold (gap_depth_of (left s at) at) y.code_depth y.what t (ap (λ (x : Call). x.what) (sym (next-gap rd s at p m g)) ∙ e) in
         rw u.with_depths (deep_quoted s shift _ _ u.token (by_first s shift u.token rd p (left s p) refl u.got (rw u.with_depths at k)))
     go (Lost r p m) g =
         let u : Error r ≡ Got t = ap (λ (x : Call). x.what) (sym (next_lost rd s at p m r g)) ∙ e in

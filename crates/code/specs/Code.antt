@@ -115,5 +115,5 @@ abbrev pub code_end : Reading → ℕ → List ℕ → ℕ → Skip
 code_end rd start cs at = walk (code_turn rd) (code_last start) 0 cs at
 
 -- the greatest depth of the block comments in the code
-abbrev pub code_depth : Reading → List ℕ → ℕ → ℕ
-code_depth rd cs at = walk_depth (code_turn rd) cs at
+abbrev pub code_depth_of : Reading → List ℕ → ℕ → ℕ
+code_depth_of rd cs at = walk_depth (code_turn rd) cs at

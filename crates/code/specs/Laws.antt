@@ -16,7 +16,6 @@ use Rattle.record.specs.declared.Reading.TheVariants.{Kept, Old}
 use Rattle.scan.specs.Depth.{cover_depth, slash_depth}
 use Rattle.scan.specs.Far.{Far}
 use Rattle.scan.specs.Passes.{Balance, From, Good, Sound, balances, block_sound, from_lost, from_past, from-test, goods, quote_past, regex_sound, seek-at, seek-none, sound_here, sound_lost, sound_more, sound_next, sound_one, sound_test, upto_sound, walk_sound}
-use Rattle.scan.specs.Readers.{regex_end}
 use Rattle.scan.specs.Seek.{block_comment, line_skip, seek, skip_more}
 use Rattle.scan.specs.Until.{left}
 use Rattle.scan.specs.Walk.{turn_of}

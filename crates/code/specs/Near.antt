@@ -1,13 +1,12 @@
 -- A refusal in code stands from the start of what is refused up to the cursor.
-use Rattle.std.specs.Prelude.{ℕ, ◌+◌, ◌-◌, ◌≤◌, ◌≡◌, refl, eqb, drop}
+use Rattle.std.specs.Prelude.{ℕ, ◌+◌, ◌-◌, ◌≤◌, ◌≡◌, refl, drop}
 use native.Mathlib.Omega.{arith}
 use mathlib.Core.List.{List, [], ◌∷◌}
 use Rattle.utf8.specs.Chars.{'#}
 use Rattle.utf8.specs.Utf8.{width_of}
 use Rattle.record.specs.declared.Reading.{Reading}
 use Rattle.record.specs.declared.Reading.TheVariants.{Kept, Old}
-use Rattle.scan.specs.Far.{Far}
-use Rattle.scan.specs.Near.{Near, NearTurn, block_near, far_on, near_lost, near_lower, near_more, near_next, near_past, near_test, near_turns, regex_near, string_near, upto_near, walk_near, wide}
+use Rattle.scan.specs.Near.{Near, NearTurn, block_near, far_on, near_lost, near_lower, near_more, near_next, near_past, near_test, near_turns, regex_near, string_near, upto_near, walk_near}
 use Rattle.scan.specs.Passes.{quote_past, seek-at, seek-none}
 use Rattle.scan.specs.Seek.{seek}
 use Rattle.scan.specs.declared.Found.{Found}

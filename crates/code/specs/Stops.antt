@@ -2,7 +2,7 @@
 use Rattle.std.specs.Prelude.{◌+◌, ◌-◌, ◌<◌, suc, zero, ℕ, Bool, ◌||◌, cond, false, not, true, List, [], ◌∷◌, ◌≡◌, refl, leb, ltb, drop, get_or, length}
 use Rattle.std.proofs.Common.{arith, ◌∙◌, ap, sym}
 use Rattle.std.proofs.Math.Dec.{eqb}
-use borrow.Author.Tests.{eq-eqb, eqb-false, eqb-true, le-leb, leb-false, lt-leb, ne_eqb, not-false}
+use borrow.Author.Tests.{eq-eqb, eqb-false, eqb-true, leb-false, lt-leb, ne_eqb, not-false}
 use Rattle.utf8.specs.Chars.{'#, '/, 'comma, 'dot, 'dquote, 'quote, 'r, 'semi}
 use Rattle.record.specs.declared.Reading.{Reading}
 use Rattle.scan.specs.Far.{far_none, lands}
@@ -13,7 +13,6 @@ use Rattle.scan.specs.Turns.{walk_pass}
 use Rattle.scan.specs.Until.{left}
 use Rattle.scan.specs.Walk.{walk_from}
 use Rattle.scan.specs.declared.Skip.{Skip}
-use Rattle.scan.specs.declared.Turn.{Turn}
 use Rattle.scan.specs.declared.Turn.TheVariants.{Pass}
 use Rattle.code.specs.Code.{closes, code_turn, opens}
 

@@ -1,5 +1,7 @@
 // Where action code ends: the Rust's `code`, and the readers that cover in it. An answer names a place, and the characters passed to
 // come there, as the ledger counts them.
+#![tactic(auto)]
+
 ghost use Rattle.std.specs.Prelude.{◌≡◌, ◌≤◌, ◌+◌, ◌-◌, ◌<◌, length, drop};
 ghost use Rattle.utf8.specs.Utf8.{chars};
 ghost use Rattle.record.specs.Records.{refusal};
@@ -11,7 +13,7 @@ ghost use Rattle.scan.specs.Walk.{turn_of};
 ghost use Rattle.scan.specs.Passes.{passed_of};
 ghost use Rattle.scan.specs.Runs.{run};
 ghost use Rattle.code.specs.Stops.{class_stop, code_stops};
-ghost use Rattle.code.specs.Code.{slash_skip, quote_last, quote_end, one_skip, esc_skip, quote_skip, regex_start, closing_hashes, body_skip, hash_skip, r_skip, opens, closes, code_turn, code_end, code_depth};
+ghost use Rattle.code.specs.Code.{slash_skip, quote_last, quote_end, one_skip, esc_skip, quote_skip, regex_start, closing_hashes, body_skip, hash_skip, r_skip, opens, closes, code_turn, code_end, code_depth_of};
 
 use record::{Code, Reading, Refusal};
 use scan::{Deep, Found, Skip, Sought, Turn, Turned};
@@ -322,7 +324,7 @@ fn index(x: u8) -> usize
 // The loop of `code`, with a table of all bytes: a dot for each one that changes nothing.
 fn code_by<'a>(stops: &'a [u8], s: &'a [u8], rd: Reading, at: usize, start: usize) -> Deep
     requires { stops.now ≡ code_stops }
-    ensures { (result.skip ≡ code_end rd start (chars (drop at s.now)) at) × (result.depth ≡ code_depth rd (chars (drop at s.now)) at) }
+    ensures { (result.skip ≡ code_end rd start (chars (drop at s.now)) at) × (result.depth ≡ code_depth_of rd (chars (drop at s.now)) at) }
 {
     let mut p = at;
     let mut n: usize = 0;
@@ -376,7 +378,7 @@ fn code_by<'a>(stops: &'a [u8], s: &'a [u8], rd: Reading, at: usize, start: usiz
 // The Rust's `code`: where the code from a place ends, for a token that starts at `start`, and the greatest depth of the comments in it. The table is
 // lent once for the whole loop.
 pub fn code(s: &[u8], rd: Reading, at: usize, start: usize) -> Deep
-    ensures { (result.skip ≡ code_end rd start (chars (drop at s.now)) at) × (result.depth ≡ code_depth rd (chars (drop at s.now)) at) }
+    ensures { (result.skip ≡ code_end rd start (chars (drop at s.now)) at) × (result.depth ≡ code_depth_of rd (chars (drop at s.now)) at) }
 {
     code_by(
         b"..................................#....###..#..#...........#...............................#.#....................#........#.#..################################################################################################################################",

@@ -1,5 +1,5 @@
 -- 01's listing, to the byte, that of the same text in the kept reading, one with depths, and what a text that is too long gives.
-use Rattle.std.specs.Prelude.{ℕ, ◌<◌, cond, List, ◌≡◌, refl, length}
+use Rattle.std.specs.Prelude.{ℕ, ◌<◌, List, ◌≡◌, refl, length}
 use Rattle.std.proofs.Common.{lt-ltb}
 use Rattle.utf8.specs.Utf8.{chars, chars_from, high, lead, low, reach, sight, width_of}
 use Rattle.unicode_xid.specs.Ranges.{holds, in_ranges}

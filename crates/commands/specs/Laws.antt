@@ -24,14 +24,11 @@ use Rattle.record.specs.declared.Code.TheVariants.{BadRecord, TooLong}
 use Rattle.record.specs.declared.Reading.{Reading}
 use Rattle.record.specs.declared.Token.{Token}
 use Rattle.reading.specs.Answers.{start_in}
-use Rattle.reading.specs.AnyCall.{room-from}
+use Rattle.reading.proofs.AnyCall.{room-from}
 use Rattle.reading.specs.Next.{next}
 use Rattle.reading.specs.Run.{run_from, run_with, stopped}
-use Rattle.reading.specs.declared.Outcome.{Outcome}
-use Rattle.reading.specs.declared.Outcome.TheVariants.{Ended, Refused, Running}
+use Rattle.reading.specs.declared.Outcome.TheVariants.{Refused}
 use Rattle.reading.specs.declared.Tokenizer.{Tokenizer}
-use Rattle.reading.specs.declared.What.{What}
-use Rattle.reading.specs.declared.What.TheVariants.{End, Error, Got}
 use Rattle.run.specs.Checked.{ran_of, ran_with, run_if, whole_run, whole_run_with}
 use Rattle.run.specs.declared.Ran.{Ran}
 use Rattle.run.specs.Numbers.{groups, numbers_all, size_of}

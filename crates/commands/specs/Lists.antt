@@ -34,7 +34,7 @@ room = text_limit
 -- of five numbers 01's line; 02, E4: of nine "`list --depth` adds the two depths to each line"
 abbrev pub record_line : Group → Token → List ℕ
 record_line Five t = token_line (kind_number t.kind) t.start t.end
-record_line Nine t = depth_line (kind_number t.kind) t.start t.end (told_number t.gap_depth_lem) (told_number t.code_depth_lem)
+record_line Nine t = depth_line (kind_number t.kind) t.start t.end (told_number t.gap_depth) (told_number t.code_depth)
 
 -- "and the last gap's to the end's"
 abbrev pub final_line : Group → ℕ → ℕ → List ℕ

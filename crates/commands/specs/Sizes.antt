@@ -1,7 +1,6 @@
 -- Every part of a text's listing, with depths or without, fits a buffer of 524,288 bytes.
 use Rattle.std.specs.Prelude.{ℕ, zero, suc, ◌+◌, ◌*◌, ◌/◌, ◌≤◌, ◌<◌, Bool, true, false, cond, List, [], ◌∷◌, ◌++◌, map, ◌≡◌, refl, eqb, ltb, drop, length, take}
-use Rattle.std.proofs.Common.{arith, ltb-false, lt-ltb, append_assoc, sym, ap, ◌∙◌, length-append, length-drop, length-take, length-take-le, take_all}
-use Rattle.utf8.specs.Picks.{tests}
+use Rattle.std.proofs.Common.{arith, ltb-false, lt-ltb, append_assoc, sym, ap, ◌∙◌, length-append, length-drop}
 use Rattle.record.specs.Numbers.{code_number, kind_number}
 use Rattle.record.specs.Records.{told_number}
 use Rattle.record.specs.declared.Code.TheVariants.{TooLong}
@@ -13,11 +12,12 @@ use Rattle.reading.specs.Answers.{start_in}
 use Rattle.reading.specs.Next.{next}
 use Rattle.reading.specs.declared.Outcome.{Outcome}
 use Rattle.reading.specs.declared.Outcome.TheVariants.{Ended, Refused, Running}
-use Rattle.run.specs.Checked.{ran_of, whole_run}
+use Rattle.run.specs.Checked.{ran_of}
 use Rattle.run.specs.declared.Group.{Group}
 use Rattle.run.specs.declared.Group.TheVariants.{Five, Nine}
 use Rattle.ledger.specs.Levels.{next_small}
-use Rattle.ledger.specs.Order.{Called, Ordered, called, ordered}
+use Rattle.ledger.proofs.Order.{ordered}
+use Rattle.ledger.specs.Order.{Called, Ordered, called}
 use Rattle.text.specs.Bytes.{bytes, join}
 use Rattle.text.specs.DigitLaws.{at-most_twenty, length_digits, ten}
 use Rattle.text.specs.Digits.{digits, width, width_in}
@@ -74,8 +74,8 @@ depth-short kind start end gap code h k m n =
 record Fits (t : Token) : Type 0 where
   start_fits : t.start ≤ text_limit
   end_fits : t.end ≤ text_limit
-  gap-fits : told_number t.gap_depth_lem ≤ text_limit
-  code_fits : told_number t.code_depth_lem ≤ text_limit
+  gap-fits : told_number t.gap_depth ≤ text_limit
+  code_fits : told_number t.code_depth ≤ text_limit
 
 abbrev Small : List Token → Type 0
 Small [] = Unit {0}
@@ -90,8 +90,8 @@ module _ (rd : Reading) (s : List ℕ) (few : length s ≤ text_limit) where
   small from to at (t ∷ ts) h o c =
       let d = next_small rd (left s at) at c.0.token c.0.got in
       let l = left-short s at in
-      let g : told_number t.gap_depth_lem ≤ text_limit = rw (c.0.shifted, d.2) (omega (arith, d.0, l, few)) in
-      let k : told_number t.code_depth_lem ≤ text_limit = rw (c.0.shifted, d.3) (omega (arith, d.1, l, few)) in
+      let g : told_number t.gap_depth ≤ text_limit = rw (c.0.shifted, d.2) (omega (arith, d.0, l, few)) in
+      let k : told_number t.code_depth ≤ text_limit = rw (c.0.shifted, d.3) (omega (arith, d.1, l, few)) in
       (record { start_fits = omega (arith, h, o.1, o.2); end_fits = omega (arith, h, o.2); gap-fits = g; code_fits = k }, small t.end to (next rd (left s at) at).at ts h o.3 c.1)
 
 small-take : (k : ℕ) (ts : List Token) → Small ts → Small (take k ts)
@@ -106,7 +106,7 @@ small-drop (suc k) (t ∷ ts) s = small-drop k ts s.1
 
 record_short : (g : Group) (t : Token) → Fits t → length (record_line g t) ≤ 54
 record_short Five t f = let h = token-short (kind_number t.kind) t.start t.end f.start_fits f.end_fits in omega (arith, h)
-record_short Nine t f = depth-short (kind_number t.kind) t.start t.end (told_number t.gap_depth_lem) (told_number t.code_depth_lem) f.start_fits f.end_fits f.gap-fits f.code_fits
+record_short Nine t f = depth-short (kind_number t.kind) t.start t.end (told_number t.gap_depth) (told_number t.code_depth) f.start_fits f.end_fits f.gap-fits f.code_fits
 
 lines-short : (g : Group) (ts : List Token) → Small ts → length (join (map (record_line g) ts)) ≤ 54 * length ts
 unfolding join

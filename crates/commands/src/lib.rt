@@ -1,5 +1,7 @@
 // What the command `list` says, as bytes for standard output and, for people, for standard error: all that a program decides. The program
 // reads, calls this, and writes.
+#![tactic(auto)]
+
 ghost use Rattle.std.specs.Prelude.{◌≡◌, ◌+◌, ◌*◌, ◌≤◌, ◌<◌, drop, length, ltb};
 ghost use Rattle.record.specs.Numbers.{code_number};
 ghost use Rattle.record.specs.Records.{over};
@@ -23,7 +25,7 @@ pub const TEXT_LIMIT: usize = 32768;
 pub const HIGHEST: u64 = 18446744073709551615;
 
 // How far the bytes for the two outputs came, and whether a part follows: a listing is said in parts.
-#[derive(Drop)]
+#[derive(Clone, Copy)]
 pub struct Said {
     pub out: Came,
     pub err: Came,

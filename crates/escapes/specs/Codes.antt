@@ -1,13 +1,12 @@
 -- WHICH CODES COME OUT of string expansion, and of the check of a part: what holds of the codes that its definitions name holds of every refusal.
 use Prim.Native.Nat.{◌+◌, ◌-◌, suc, zero, ℕ}
-use Rattle.std.specs.Prelude.{false, ◌≡◌, ltb, length}
+use Rattle.std.specs.Prelude.{◌≡◌, ltb, length}
 use mathlib.Core.List.{List, [], ◌∷◌}
 use Rattle.std.proofs.Math.Path.{refl}
 use Rattle.utf8.specs.Chars.{'backslash}
 use Rattle.utf8.specs.Picks.{by_test}
 use Rattle.record.specs.Checks.{checks}
-use Rattle.record.specs.Codes.{OneOf, Refuses, among, checks-refuse, each, new_codes, none_of, refused_for}
-use Rattle.record.specs.Numbers.{code_number}
+use Rattle.record.specs.Codes.{Refuses, checks-refuse, new_codes, refused_for}
 use Rattle.record.specs.Records.{refusal}
 use Rattle.record.specs.declared.Checked.{Checked}
 use Rattle.record.specs.declared.Checked.TheVariants.{Passed, Refused as Failed}
@@ -87,23 +86,13 @@ module _ (Q : Code → Type 0) where
       fit-answers (gives l) h = by_test (λ (x : Done). AnswersIn x.answer) (ltb (length d) (place + length l)) _ _ (λ t. q14) (λ t. tt)
       fit-answers (refused r) h = h
 
-      applied-answers : AnswersIn (applied s idx0 d place).answer
+      pub applied-answers : AnswersIn (applied s idx0 d place).answer
       unfolding applied expanded expand
       applied-answers = go (checks s idx0) (checks-refuse Q q12 q13 q11 s idx0)
         where
           go : (c : Checked) → Refuses Q c → AnswersIn (checked c (expanded s idx0 d place) d).answer
           go Passed h = by_test (λ (x : Done). AnswersIn x.answer) (has_byte 'backslash s) _ _ (λ t. fit-answers (expand_from 0 s idx0) (from_gives 0 s idx0)) (λ t. tt)
           go (Failed r) h = h.is
-
--- THE THEOREMS
-module _ (s : List ℕ) (idx0 : ℕ) (d : List ℕ) (place : ℕ) (r : Refusal) (e : (applied s idx0 d place).answer ≡ Refused r) where
-  pub expand-codes : OneOf expand_codes r.code
-  unfolding among
-  expand-codes = rw e at (applied-answers (OneOf expand_codes) refl refl refl refl refl refl refl s idx0 d place)
-
-  pub expand_never : among (code_number r.code) never_expand ≡ false
-  unfolding among each
-  expand_never = none_of expand_codes never_expand refl r.code expand-codes
 
 -- the check of a part refuses for 20 alone
 pub part-codes : (s d : List ℕ) (p : Part) (r : Refusal) → part_check s d p ≡ Failed r → r.code ≡ BadRecord

@@ -8,7 +8,8 @@ use Rattle.utf8.specs.declared.Sight.TheVariants.{Char, End}
 use Rattle.utf8.specs.Utf8.{low, high, code2, code3, code4, lead, sight, sight_at, chars, chars_from, width_of, reach}
 use Rattle.utf8.specs.Picks.{by_test, tests}
 use Rattle.utf8.specs.Chars.{'backslash, 'x, '0, 'a, 'f}
-use Rattle.utf8.specs.Laws.{Seen, seen, ended, sight_in, sight_ascii, reach_step, reach-end, Whole, whole-step}
+use Rattle.utf8.proofs.Laws.{seen}
+use Rattle.utf8.specs.Laws.{Seen, ended, sight_in, sight_ascii, reach_step, reach-end, Whole, whole-step}
 use Rattle.record.specs.declared.Refusal.{Refusal}
 use Rattle.escapes.specs.declared.Read.{Read}
 use Rattle.escapes.specs.declared.Read.TheVariants.{Byte, Bad}

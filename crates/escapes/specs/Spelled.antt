@@ -7,7 +7,8 @@ use Rattle.utf8.specs.declared.Sight.TheVariants.{Char, End}
 use Rattle.utf8.specs.Utf8.{lead, sight, sight_at, chars, chars_from, width_of}
 use Rattle.utf8.specs.Picks.{by_test}
 use Rattle.utf8.specs.Chars.{'backslash}
-use Rattle.utf8.specs.Laws.{Seen, seen, ended, sight_in, sight_past, sight_ascii, reach-end, Whole, whole-step}
+use Rattle.utf8.proofs.Laws.{seen}
+use Rattle.utf8.specs.Laws.{Seen, ended, sight_in, sight_past, sight_ascii, Whole, whole-step}
 use Rattle.record.specs.declared.Refusal.{Refusal}
 use Rattle.escapes.specs.declared.Read.{Read}
 use Rattle.escapes.specs.declared.Read.TheVariants.{Byte, Bad}

@@ -1,4 +1,6 @@
 // String expansion: what the escapes of a string literal stand for, written into a lent buffer.
+#![tactic(auto)]
+
 ghost use Rattle.std.specs.Prelude.{◌≡◌, true, ◌<◌, ◌+◌, length, drop, get_or, ltb};
 ghost use Rattle.utf8.specs.Utf8.{chars};
 ghost use Rattle.escapes.specs.Escapes.{digit, ascii_escape, escape, stands, expand, has_byte};
@@ -29,28 +31,28 @@ const LOWER_A: u32 = b'a' as u32;
 const LOWER_F: u32 = b'f' as u32;
 
 // What stands at a place of the text: a byte of the expansion, and how many bytes of the text make it; or a refusal.
-#[derive(Drop)]
+#[derive(Clone, Copy)]
 enum Read {
     Byte { byte: u8, width: usize },
     Bad(Refusal),
 }
 
 // How many bytes the expansion has, or the refusal.
-#[derive(Drop)]
+#[derive(Clone, Copy)]
 enum Measured {
     Long(usize),
     Stopped(Refusal),
 }
 
 // Which of the two slices holds an expansion.
-#[derive(Drop)]
+#[derive(Clone, Copy)]
 pub enum Held {
     Text,
     Buffer,
 }
 
 // A range of the text or of the buffer.
-#[derive(Drop)]
+#[derive(Clone, Copy)]
 pub struct Part {
     pub held: Held,
     pub start: usize,
@@ -58,7 +60,7 @@ pub struct Part {
 }
 
 // Where an expansion stands, or why there is none.
-#[derive(Drop)]
+#[derive(Clone, Copy)]
 pub enum Expanded {
     Part(Part),
     Refused(Refusal),

@@ -1,7 +1,7 @@
 -- What the code cites.
 use Rattle.std.specs.Prelude.{ℕ, ◌*◌, ◌/◌, ◌≤◌, ◌<◌, Bool, true, false, ◌&&◌, cond, ◌≡◌, refl, eqb, ltb, drop, take}
 use Rattle.std.proofs.Common.{arith, le-ltb, lt-ltb, ◌∙◌}
-use mathlib.Core.List.{List, [], ◌∷◌, ◌++◌, map}
+use mathlib.Core.List.{List, [], map}
 use Rattle.std.proofs.Math.Path.{sym, ap}
 use Rattle.std.proofs.Math.ListN.{length}
 use Rattle.std.proofs.Math.Seq.{take-append_seam}
@@ -31,7 +31,7 @@ use Rattle.ltk.specs.declared.Entry.{Entry}
 use Rattle.ledger.specs.Written.{entries_are}
 use Rattle.commands.specs.Laws.{Is, SaidFrom, chunk_are, end-part, fits, head-on, held_all, how_is, mid_part, no_part, numbers_length, only_part, tokens-room}
 use Rattle.commands.specs.Lists.{Left, header_lines, highest, limit_lines, record_line, refused_lines, room, text_limit}
-use Rattle.commands.specs.Parts.{chunk, chunk_lines, held_lines, last_part, only_in, part_lines}
+use Rattle.commands.specs.Parts.{chunk, held_lines, last_part}
 use Rattle.files.specs.Files.{file_last, file_limit, file_lines, pack_err, pack_out, packed_err, packed_out, read_err, unpack_err, unpack_last, unpack_more, unpack_part, unpack_part_err, unpack_tokens}
 use Rattle.files.specs.Whole.{none, read_length}
 

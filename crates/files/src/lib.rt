@@ -1,4 +1,6 @@
 // What the commands `pack` and `unpack` say, as bytes for standard output and, for people, for standard error.
+#![tactic(auto)]
+
 ghost use Rattle.std.specs.Prelude.{◌≡◌, ◌*◌, ◌≤◌, length, take, ltb, false};
 ghost use Rattle.run.specs.declared.Group.TheVariants.{Five};
 ghost use Rattle.ltk.specs.Ltk.{entries_in, read_answer, read_tokens};

@@ -1,4 +1,6 @@
 // What the command `sheet` makes of a file: its text is taken onto a sheet, and for people a line says why it is refused.
+#![tactic(auto)]
+
 ghost use Rattle.std.specs.Prelude.{◌≡◌};
 ghost use Rattle.text.specs.Lay.{lay_all};
 ghost use Rattle.text.specs.declared.Came.TheVariants.{To};
@@ -13,7 +15,7 @@ use text::Came;
 pub const FILE_LIMIT: usize = 1048576;
 
 // Whether a file was refused, and how far the bytes for people came.
-#[derive(Drop)]
+#[derive(Clone, Copy)]
 pub struct Filed {
     pub refused: bool,
     pub err: Came,

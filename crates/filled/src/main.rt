@@ -1,5 +1,7 @@
 // A sheet filled to its 1,024 texts, four of replay's by turns, with the answers that the Rust gave to them on a row beside it; the text after them; and
 // answers that are wrong on purpose, so that the stored run shows that differences are seen. (The program replay holds all texts of its file against sheets.)
+#![tactic(auto)]
+
 mod say;
 
 ghost use Rattle.std.specs.Prelude.{◌≡◌, length};
@@ -16,7 +18,7 @@ fn empty_row() -> [u64; 96]
 // A number of an answer that is made wrong: one more than it is.
 fn wrong(answer: &mut [u64], at: usize) {
     if at < answer.len() {
-        answer[at] = std::num::wrapping_add_u64(answer[at], 1);
+        answer[at] = answer[at].wrapping_add(1);
     }
 }
 
@@ -65,54 +67,52 @@ fn one(i: u64, at: usize, page: &mut [u64], row: &mut [u64]) {
 
 // 1,023 texts, and their recorded answers as they are.
 fn fill(page: &mut [u64], row: &mut [u64]) {
-    let mut i: u64 = 0;
-    while i < 1023 {
+    for i in 0..1023 {
         one(i, NONE, page, row);
-        i += 1;
     }
 }
 
 // A sheet beside the sums of the recorded answers.
-fn compare(page: [u64; 96], row: [u64; 96]) {
+fn compare(rt: &impl Print, page: [u64; 96], row: [u64; 96]) {
     let mut joined = page;
     summed::as_row(&mut joined);
-    difference(recorded::numbers_differ(0, &row, &joined));
+    difference(rt, recorded::numbers_differ(0, &row, &joined));
 }
 
 // The answer of the last of 1,024 texts is wrong on purpose, in the number at a place.
-fn planted(name: &[u8], last: u64, at: usize) {
+fn planted(rt: &impl Print, name: &[u8], last: u64, at: usize) {
     let mut page = empty_row();
     let mut row = empty_row();
     fill(&mut page, &mut row);
     one(last, at, &mut page, &mut row);
-    say(name);
-    compare(page, row);
+    say(rt, name);
+    compare(rt, page, row);
 }
 
 // A text for a sheet that is full: what is answered, and whether the sheet is what it was.
-fn offered(name: &[u8], text: &[u8], page: [u64; 96]) {
+fn offered(rt: &impl Print, name: &[u8], text: &[u8], page: [u64; 96]) {
     let mut after = page;
-    say(name);
-    say::taken(sheet::take(text, &mut after));
-    say::unchanged(&page, &after);
+    say(rt, name);
+    say::taken(rt, sheet::take(text, &mut after));
+    say::unchanged(rt, &page, &after);
 }
 
-fn all_planted() {
-    planted(b"planted, a kind: ", 3, 6);
-    planted(b"planted, an end: ", 1, 8);
-    planted(b"planted, advances: ", 3, 4);
-    planted(b"planted, a code: ", 2, 2);
+fn all_planted(rt: &impl Print) {
+    planted(rt, b"planted, a kind: ", 3, 6);
+    planted(rt, b"planted, an end: ", 1, 8);
+    planted(rt, b"planted, advances: ", 3, 4);
+    planted(rt, b"planted, a code: ", 2, 2);
 }
 
-fn main() {
+fn main(rt: HostRuntime) {
     let mut page = empty_row();
     let mut row = empty_row();
     fill(&mut page, &mut row);
     one(1023, NONE, &mut page, &mut row);
-    say(b"1024 texts, beside their recorded answers: ");
-    compare(page, row);
-    numbers(&page);
-    offered(b"a 1025th: ", b"a", page);
-    offered(b"a 1025th that is ill-formed: ", b"a\xff", page);
-    all_planted();
+    say(&rt, b"1024 texts, beside their recorded answers: ");
+    compare(&rt, page, row);
+    numbers(&rt, &page);
+    offered(&rt, b"a 1025th: ", b"a", page);
+    offered(&rt, b"a 1025th that is ill-formed: ", b"a\xff", page);
+    all_planted(&rt);
 }

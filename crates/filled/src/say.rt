@@ -1,83 +1,81 @@
 // What this program prints with.
-use libc::STDOUT_FILENO;
 use record::Refusal;
 use recorded::Difference;
 use sheet::Taken;
 
-pub(crate) fn say(words: &[u8]) {
-    io::write_all(STDOUT_FILENO, words);
+// What cannot be written is let go.
+pub(crate) fn say(rt: &impl Print, words: &[u8]) {
+    let _ = rt.write_all(words);
 }
 
-pub(crate) fn number(n: u64) {
-    io::print_decimal(STDOUT_FILENO, n);
+pub(crate) fn number(rt: &impl Print, n: u64) {
+    let _ = print!(rt; "{n}");
 }
 
 // A refusal by its number, and its place.
-fn refusal(r: Refusal) {
+fn refusal(rt: &impl Print, r: Refusal) {
     let c = r.code;
-    number(record::code_number(c) as u64);
-    say(b" at ");
-    number(r.place);
-    say(b"\n");
+    number(rt, record::code_number(c) as u64);
+    say(rt, b" at ");
+    number(rt, r.place);
+    say(rt, b"\n");
 }
 
 // What became of a text.
-pub(crate) fn taken(t: Taken) {
+pub(crate) fn taken(rt: &impl Print, t: Taken) {
     match t {
-        Taken::Whole => say(b"taken\n"),
+        Taken::Whole => say(rt, b"taken\n"),
         Taken::Tallied(r) => {
-            say(b"tallied: ");
-            refusal(r);
+            say(rt, b"tallied: ");
+            refusal(rt, r);
         }
         Taken::Refused(r) => {
-            say(b"refused: ");
-            refusal(r);
+            say(rt, b"refused: ");
+            refusal(rt, r);
         }
     }
 }
 
 // One of a sheet's numbers, where it is not 0.
-fn held(i: usize, n: u64) {
+fn held(rt: &impl Print, i: usize, n: u64) {
     if n != 0 {
-        say(b" ");
-        number(i as u64);
-        say(b":");
-        number(n);
+        say(rt, b" ");
+        number(rt, i as u64);
+        say(rt, b":");
+        number(rt, n);
     }
 }
 
 // The numbers of a sheet that are not 0, each after its index.
-pub(crate) fn numbers(page: &[u64]) {
-    say(b" ");
-    let mut i: usize = 0;
-    while i < page.len() {
-        held(i, page[i]);
-        i += 1;
+pub(crate) fn numbers(rt: &impl Print, page: &[u64]) {
+    say(rt, b" ");
+    for (i, n) in page.iter().enumerate() {
+        held(rt, i, *n);
     }
-    say(b"\n");
+    say(rt, b"\n");
 }
 
 // Where a sheet differs from the sums of recorded answers.
-pub(crate) fn difference(d: Difference) {
+pub(crate) fn difference(rt: &impl Print, d: Difference) {
     match d {
-        Difference::Same => say(b"no difference\n"),
-        Difference::Length(_, _) => say(b"not as many numbers\n"),
+        Difference::Same => say(rt, b"no difference\n"),
+        Difference::Length(_, _) => say(rt, b"not as many numbers\n"),
         Difference::Number(i, r, a) => {
-            say(b"number ");
-            number(i as u64);
-            say(b": recorded ");
-            number(r);
-            say(b", on the sheet ");
-            number(a);
-            say(b"\n");
+            say(rt, b"number ");
+            number(rt, i as u64);
+            say(rt, b": recorded ");
+            number(rt, r);
+            say(rt, b", on the sheet ");
+            number(rt, a);
+            say(rt, b"\n");
         }
     }
 }
 
 // Whether a sheet is what it was.
-pub(crate) fn unchanged(before: &[u64], after: &[u64]) {
+pub(crate) fn unchanged(rt: &impl Print, before: &[u64], after: &[u64]) {
     match recorded::numbers_differ(0, before, after) {
-        Difference::Same => say(b"  unchanged\n"),
-        _ => say(b"  changed\n"),
+        Difference::Same => say(rt, b"  unchanged\n"),
+        _ => say(rt, b"  changed\n"),
     }
 }

@@ -1,40 +1,36 @@
 // Every kind and every refusal, by number.
 use crate::say::{code, kind, number, say};
 
-fn kind_row(n: u64) {
-    number(n);
-    say(b" ");
-    kind(n);
-    say(b"\n");
+fn kind_row(rt: &impl Print, n: u64) {
+    number(rt, n);
+    say(rt, b" ");
+    kind(rt, n);
+    say(rt, b"\n");
 }
 
-fn code_row(n: u64) {
-    number(n);
-    say(b" ");
-    code(n);
-    say(b"\n");
+fn code_row(rt: &impl Print, n: u64) {
+    number(rt, n);
+    say(rt, b" ");
+    code(rt, n);
+    say(rt, b"\n");
 }
 
-fn kinds() {
-    let mut n: u64 = 0;
-    while n < 55 {
-        kind_row(n);
-        n += 1;
+fn kinds(rt: &impl Print) {
+    for n in 0..55 {
+        kind_row(rt, n);
     }
 }
 
-fn codes() {
-    let mut n: u64 = 0;
-    while n < 31 {
-        code_row(n);
-        n += 1;
+fn codes(rt: &impl Print) {
+    for n in 0..31 {
+        code_row(rt, n);
     }
 }
 
 // The numbers after the last, and 0 of the refusals, have no name.
-pub(crate) fn all() {
-    say(b"kinds\n");
-    kinds();
-    say(b"refusals\n");
-    codes();
+pub(crate) fn all(rt: &impl Print) {
+    say(rt, b"kinds\n");
+    kinds(rt);
+    say(rt, b"refusals\n");
+    codes(rt);
 }

@@ -3,23 +3,23 @@ use crate::say::{bytes, checked, number, say};
 use record::Kind;
 
 // The payload of a record of a text that starts with shift 7.
-fn payload(a: u64, b: u64) {
+fn payload(rt: &impl Print, a: u64, b: u64) {
     let text = b"r\"\xc3\xa9\"";
     let t = record::token_of(Kind::RegexLiteral, 7, 12, a, b);
-    say(b"payload ");
-    number(a);
-    say(b" ");
-    number(b);
-    say(b":");
-    bytes(run::payload(text, 7, t));
-    say(b" ");
-    checked(run::payload_check(text, 7, t));
+    say(rt, b"payload ");
+    number(rt, a);
+    say(rt, b" ");
+    number(rt, b);
+    say(rt, b":");
+    bytes(rt, run::payload(text, 7, t));
+    say(rt, b" ");
+    checked(rt, run::payload_check(text, 7, t));
 }
 
-pub(crate) fn all() {
-    payload(9, 11);
-    payload(9, 10);
-    payload(6, 8);
-    payload(11, 9);
-    payload(12, 13);
+pub(crate) fn all(rt: &impl Print) {
+    payload(rt, 9, 11);
+    payload(rt, 9, 10);
+    payload(rt, 6, 8);
+    payload(rt, 11, 9);
+    payload(rt, 12, 13);
 }

@@ -1,14 +1,13 @@
 -- ONE CALL: where it meets none of the three places, both readings answer the same.
 use Rattle.std.specs.Prelude.{◌+◌, ℕ, Bool, cond, false, true, ◌≡◌, refl, eqb, drop}
 use mathlib.Core.List.{List, [], ◌∷◌}
-use Rattle.std.proofs.Common.{◌∙◌, ap, sym}
+use Rattle.std.proofs.Common.{◌∙◌, ap}
 use borrow.Author.Tests.{eqb-true}
 use Rattle.utf8.specs.Chars.{'#, '=, '>, '?, 'at, 'dquote, 'r}
 use Rattle.utf8.specs.Utf8.{width_of}
 use Rattle.unicode_xid.specs.Identifier.{is_identifier_start}
 use Rattle.record.specs.declared.Kind.{Kind}
 use Rattle.record.specs.declared.Reading.TheVariants.{Kept, Old}
-use Rattle.scan.specs.Far.{after}
 use Rattle.scan.specs.IfNext.{if_next}
 use Rattle.scan.specs.Seek.{seek}
 use Rattle.scan.specs.declared.Found.{Found}
@@ -18,11 +17,11 @@ use Rattle.scan.specs.declared.Skip.TheVariants.{Lost, Past}
 use Rattle.scan.specs.declared.Sought.TheVariants.{Hashes, Word}
 use Rattle.reading.specs.Answers.{more, told}
 use Rattle.reading.specs.Attribute.{attempt, attribute_token, dropped, hash, hash_by}
-use Rattle.reading.specs.Gaps.{gap, gap_depth}
+use Rattle.reading.specs.Gaps.{gap, gap_depth_of}
 use Rattle.reading.specs.Next.{next, next_by, starts, token, token_or_end}
 use Rattle.reading.specs.Regex.{hashed, r_word, regex_literal, regex_literal_by}
 use Rattle.reading.specs.Symbols.{arrow_code, equals, right_arrow, single, singles}
-use Rattle.reading.specs.Words.{code_token, identifier_by, identifierish, spells, use_token, use_word, word_token}
+use Rattle.reading.specs.Words.{identifier_by, identifierish, spells, use_token, use_word, word_token}
 use Rattle.reading.specs.declared.Attempt.{Attempt}
 use Rattle.reading.specs.declared.Attempt.TheVariants.{Closed, Failed}
 use Rattle.reading.specs.declared.Call.{Call}
@@ -174,6 +173,6 @@ pub one-call : (cs : List ℕ) (at : ℕ) → meets cs at ≡ false → next Old
 unfolding meets next
 one-call cs at e = go (gap cs at) e
   where
-    go : (x : Skip) → meets_by cs x ≡ false → next_by Old cs x (gap_depth cs at) ≡ next_by Kept cs x (gap_depth cs at)
-    go (Past p m) e = ap (told (gap_depth cs at)) (ap (more m) (first_one (drop m cs) p e).is)
+    go : (x : Skip) → meets_by cs x ≡ false → next_by Old cs x (gap_depth_of cs at) ≡ next_by Kept cs x (gap_depth_of cs at)
+    go (Past p m) e = ap (told (gap_depth_of cs at)) (ap (more m) (first_one (drop m cs) p e).is)
     go (Lost r p m) e = refl

@@ -14,7 +14,7 @@ use Rattle.scan.specs.IfNext.{if_next}
 use Rattle.scan.specs.Passes.{quote_past}
 use Rattle.scan.specs.Runs.{neither}
 use Rattle.scan.specs.Seek.{seek, skip_more}
-use Rattle.scan.specs.Walk.{turn_of, walk_from}
+use Rattle.scan.specs.Walk.{walk_from}
 use Rattle.scan.specs.declared.Found.{Found}
 use Rattle.scan.specs.declared.Found.TheVariants.{At, Nothing}
 use Rattle.scan.specs.declared.Skip.{Skip}
@@ -22,7 +22,7 @@ use Rattle.scan.specs.declared.Skip.TheVariants.{Lost, Past}
 use Rattle.scan.specs.declared.Sought.TheVariants.{Quote}
 use Rattle.scan.specs.declared.Turn.{Turn}
 use Rattle.scan.specs.declared.Turn.TheVariants.{Fail, Pass, Stop}
-use Rattle.code.specs.Code.{code_depth, code_end, code_last, code_turn, esc_past, esc_skip, one_skip, quote_end, quote_last, quote_skip, r_skip}
+use Rattle.code.specs.Code.{code_depth_of, code_end, code_last, code_turn, esc_past, esc_skip, one_skip, quote_end, quote_last, quote_skip, r_skip}
 use Rattle.kept.specs.Places.{code_meets, code_meets_from, differs, ends_text}
 
 pub no : {A : Type 0} → true ≡ false → A
@@ -132,5 +132,5 @@ depth_same zero (c ∷ cs) b at d e = go (code_turn Old b c cs at (at + width_of
         rw (q, depth_from) (rw (f, depth_from) (ih m b' (rw (q, code_meets_from) at g.1)))
 
 -- THE LAW, of code: it ends in the same place, or is refused alike, and its comments go as deep
-pub code_same : (start : ℕ) (cs : List ℕ) (at : ℕ) → code_meets cs at ≡ false → (code_end Old start cs at ≡ code_end Kept start cs at) × (code_depth Old cs at ≡ code_depth Kept cs at)
+pub code_same : (start : ℕ) (cs : List ℕ) (at : ℕ) → code_meets cs at ≡ false → (code_end Old start cs at ≡ code_end Kept start cs at) × (code_depth_of Old cs at ≡ code_depth_of Kept cs at)
 code_same start cs at e = (walk_same (code_last start) 0 cs 0 at 0 e, depth_same 0 cs 0 at 0 e)

@@ -1,21 +1,21 @@
 -- ONE STORY IN BOTH READINGS. Where neither meets one of the three places (Places), they are equal in every field: of one call, of the public single call, and of a
 -- whole run. The tokenizer tells which reading it is in; all else that they answer and leave is one. Each theorem of a public call takes what its contract allows.
 use Prim.Native.Nat.{◌+◌, ◌-◌, suc, zero, ℕ}
-use Rattle.std.specs.Prelude.{Bool, ◌&&◌, not, List, ◌≡◌, ltb, drop, length}
+use Rattle.std.specs.Prelude.{Bool, ◌&&◌, not, List, ◌≡◌, ltb, length}
 use Rattle.std.proofs.Math.Bool.{cond, false, true}
 use Rattle.std.proofs.Common.{◌∙◌, ap, sym}
 use Rattle.std.proofs.Math.Path.{refl}
-use Rattle.utf8.specs.Utf8.{boundary, chars}
+use Rattle.utf8.specs.Utf8.{boundary}
 use Rattle.record.specs.Checks.{checks}
 use Rattle.record.specs.Records.{over, refusal}
 use Rattle.record.specs.declared.Checked.{Checked}
 use Rattle.record.specs.declared.Checked.TheVariants.{Passed, Refused as Stopped}
-use Rattle.record.specs.declared.Code.TheVariants.{BadRecord, WorkLimit}
+use Rattle.record.specs.declared.Code.TheVariants.{BadRecord}
 use Rattle.record.specs.declared.Reading.{Reading}
 use Rattle.record.specs.declared.Reading.TheVariants.{Kept, Old}
 use Rattle.record.specs.declared.Token.{Token}
 use Rattle.scan.specs.Until.{left}
-use Rattle.reading.specs.AnyCall.{step_reading}
+use Rattle.reading.proofs.AnyCall.{step_reading}
 use Rattle.reading.specs.Next.{next}
 use Rattle.reading.specs.Run.{Run, also, put, run, run_from, run_from_with, run_with, step, step_by, step_in, step_with, stopped, turn}
 use Rattle.reading.specs.declared.Call.{Call}
@@ -25,10 +25,10 @@ use Rattle.reading.specs.declared.Stepped.{Stepped}
 use Rattle.reading.specs.declared.Tokenizer.{Tokenizer}
 use Rattle.reading.specs.declared.What.{What}
 use Rattle.reading.specs.declared.What.TheVariants.{End, Error, Got}
-use Rattle.run.specs.Checked.{next_token, next_token_with, ran_of, ran_with, report, run_if, step_if, whole_run, whole_run_with}
+use Rattle.run.specs.Checked.{next_token, next_token_with, ran_with, report, run_if, step_if, whole_run, whole_run_with}
 use Rattle.run.specs.declared.Ran.{Ran}
 use Rattle.ledger.specs.Order.{step_got}
-use Rattle.callers.specs.Contracts.{Nexts, RunsFrom}
+use Rattle.callers.specs.PublicCalls.{Nexts, RunsFrom}
 use Rattle.kept.specs.Calls.{one-call}
 use Rattle.kept.specs.Covers.{no}
 use Rattle.kept.specs.Places.{calm, further, meets}
@@ -38,7 +38,7 @@ abbrev pub in_reading : Reading → Tokenizer → Tokenizer
 in_reading rd t = record { at = t.at; count = t.count; done = t.done; reading = rd }
 
 abbrev pub stepped_in : Reading → Stepped → Stepped
-stepped_in rd x = record { what = x.what; next = in_reading rd x.next; gap_depth_lem = x.gap_depth_lem }
+stepped_in rd x = record { what = x.what; next = in_reading rd x.next; gap_depth = x.gap_depth }
 
 abbrev pub run_in : Reading → Run → Run
 run_in rd r = record { tokens = r.tokens; how = r.how; state = in_reading rd r.state; last = r.last }
@@ -98,7 +98,7 @@ module _ (s : List ℕ) (shift limit : ℕ) where
       u = (step s shift limit (in_reading Old t)).next
 
       g : ℕ
-      g = (step s shift limit (in_reading Old t)).gap_depth_lem
+      g = (step s shift limit (in_reading Old t)).gap_depth
 
       Again : Type 0
       Again = (m : ℕ) (v : Tokenizer) → calm k s v.at ≡ true → run_from s shift limit k m (in_reading Kept v) ≡ run_in Kept (run_from s shift limit k m (in_reading Old v))
@@ -129,8 +129,8 @@ module _ (s : List ℕ) (shift limit : ℕ) where
   unfolding next_token_with
   next-same t e = go (checks s shift)
     where
-      by : (b : Bool) → cond b (step s shift limit (in_reading Kept t)) (record { what = Error (refusal BadRecord 0); next = in_reading Kept t; gap_depth_lem = 0 })
-          ≡ stepped_in Kept (cond b (step s shift limit (in_reading Old t)) (record { what = Error (refusal BadRecord 0); next = in_reading Old t; gap_depth_lem = 0 }))
+      by : (b : Bool) → cond b (step s shift limit (in_reading Kept t)) (record { what = Error (refusal BadRecord 0); next = in_reading Kept t; gap_depth = 0 })
+          ≡ stepped_in Kept (cond b (step s shift limit (in_reading Old t)) (record { what = Error (refusal BadRecord 0); next = in_reading Old t; gap_depth = 0 }))
       by true = step_same t e
       by false = refl
 

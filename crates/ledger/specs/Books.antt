@@ -1,5 +1,6 @@
 -- THE BOOKS CLOSE. Theorems about what the contract of `run::run` allows, and so about every run of it from the start of a text: each takes
--- such a run, `Runs`, and speaks of its answer and of the records that the lent list holds.
+-- such a run, `Runs`, and speaks of its answer and of the records that the lent list holds. What its count is, the fourth of them, is in
+-- proofs/Books.antt.
 use Rattle.std.specs.Prelude.{◌*◌, ◌+◌, ◌-◌, ◌/◌, ◌≤◌, ℕ, Bool, cond, false, true, List, [], ◌++◌, ◌∷◌, ◌≡◌, refl, length, take}
 use Rattle.std.proofs.Common.{arith, ◌∙◌, ap, sym, length-append}
 use Rattle.utf8.specs.Utf8.{chars, reach}
@@ -17,8 +18,7 @@ use Rattle.run.specs.Checked.{ran_of, ran_with, report, whole_run}
 use Rattle.run.specs.Numbers.{group_size, numbers_all}
 use Rattle.run.specs.declared.Ran.{Ran}
 use Rattle.ledger.specs.Order.{found}
-use Rattle.ledger.specs.Runs.{bound_law, end_law, over_law, spent_law}
-use Rattle.ledger.specs.Spent.{final_call, spent}
+use Rattle.ledger.specs.Runs.{bound_law, end_law, over_law}
 
 -- A run of the text s from its start, with a shift and a work limit: the lent list before and after it, and the answer r. This is the contract
 -- of `run::run`, word for word, where the tokenizer is the one that `tok::start_in` gives for a reading. Each theorem holds in both readings.
@@ -95,7 +95,7 @@ two_places d = omega (arith, adds_up d, no_third_place d)
 
 -- ---- THE THEOREMS, of a run of the text s
 module _ (rd : Reading) (s : List ℕ) (shift limit : ℕ) (before : List Token) (r : Ran) (after : List Token) (contract : Runs rd s shift limit before r after) where
-  reported : r ≡ report (checks s shift) (whole_run s shift limit (length before) (start_in rd))
+  pub reported : r ≡ report (checks s shift) (whole_run s shift limit (length before) (start_in rd))
   unfolding ran_with
   reported = contract.0
 
@@ -129,11 +129,6 @@ module _ (rd : Reading) (s : List ℕ) (shift limit : ℕ) (before : List Token)
   -- 3. In every run, whatever stops it.
   pub advances_bound : r.advances ≤ N s + 2 * (H s - B s) + B s * N s
   advances_bound = rw reported (bound_law rd s shift limit (length before))
-
-  -- 4. In every run the count is what its calls pass by the definition: one call for each record that it stored, and the final call where that
-  -- answered the end or an error of the reading.
-  pub no_invention : r.advances ≡ spent rd s (r.stored + final_call r.how) 0
-  no_invention = rw reported (spent_law rd s shift limit (length before))
 
 -- 02, E5: "In demand 3 it has no third place: each character is in a token or a gap"
 pub each_in_two : (s : List ℕ) (shift limit : ℕ) (before : List Token) (r : Ran) (after : List Token) (contract : Runs Kept s shift limit before r after) (e : r.how ≡ Ended)

@@ -28,10 +28,10 @@ use Rattle.scan.specs.declared.Found.TheVariants.{At, Nothing}
 use Rattle.scan.specs.declared.Skip.{Skip}
 use Rattle.scan.specs.declared.Skip.TheVariants.{Lost, Past}
 use Rattle.scan.specs.declared.Sought.TheVariants.{Backtick, Hashes, Word}
-use Rattle.code.specs.Code.{code_depth, code_end}
+use Rattle.code.specs.Code.{code_depth_of, code_end}
 use Rattle.reading.specs.Answers.{deliver, fail, more, plain, refuse, told, told_what}
 use Rattle.reading.specs.Attribute.{attempt, attribute_token, hash, hash_by}
-use Rattle.reading.specs.Gaps.{gap, gap_depth}
+use Rattle.reading.specs.Gaps.{gap, gap_depth_of}
 use Rattle.reading.specs.Next.{next, next_by, starts, token, token_or_end}
 use Rattle.reading.specs.Passes.{gap_sound}
 use Rattle.reading.specs.Quotes.{char_literal, escape, lifetime_by, lifetimeish, string_literal, string_or_char_literal}
@@ -68,9 +68,9 @@ no e = let w : ◌≡◌ {A = ℕ} 0 1 = cc in absurd (omega arith)
 
 -- ---- what a call tells, its token tells
 record Tells (cs : List ℕ) (at : ℕ) (x : Call) (t : Token) : Type 0 where
-  gap_is : x.gap_depth_lem ≡ gap_depth cs at
-  gap-tells : t.gap_depth_lem ≡ Is x.gap_depth_lem
-  code-tells : t.code_depth_lem ≡ Is x.code_depth_lem
+  gap_is : x.gap_depth ≡ gap_depth_of cs at
+  gap-tells : t.gap_depth ≡ Is x.gap_depth
+  code-tells : t.code_depth ≡ Is x.code_depth
 
 -- in every reading
 module _ (rd : Reading) where
@@ -78,7 +78,7 @@ module _ (rd : Reading) where
   pub record Coded (cs : List ℕ) (at d p : ℕ) : Type 0 where
     pub passed : ℕ
     pub far : Far cs at passed p
-    pub depth : d ≡ code_depth rd (drop passed cs) p
+    pub depth : d ≡ code_depth_of rd (drop passed cs) p
 
   -- what an answer with the depth d says, by a reader of the characters cs at the place at
   abbrev pub LevelIn : List ℕ → ℕ → ℕ → What → Type 0
@@ -87,7 +87,7 @@ module _ (rd : Reading) where
   LevelIn cs at d End = d ≡ 0
 
   pub record Level (cs : List ℕ) (at : ℕ) (x : Call) : Type 0 where
-    pub is : LevelIn cs at x.code_depth_lem x.what
+    pub is : LevelIn cs at x.code_depth x.what
 
   -- ---- what a reader answers
   module _ (cs : List ℕ) (at : ℕ) where
@@ -141,7 +141,7 @@ module _ (rd : Reading) where
     later_in m p d End f h = h
 
     level_later : (m p n : ℕ) (x : Call) → Far cs at m p → Level (drop m cs) p x → Level cs at (more n x)
-    level_later m p n x f h = level_more n x (record { is = later_in m p x.code_depth_lem x.what f h.is })
+    level_later m p n x f h = level_more n x (record { is = later_in m p x.code_depth x.what f h.is })
 
   level_one : (c : ℕ) (cs : List ℕ) (at : ℕ) (x : Call) → Level cs (at + width_of c) x → Level (c ∷ cs) at (more 1 x)
   level_one c cs at x h = level_later (c ∷ cs) at 1 (at + width_of c) 1 x (one_far c cs at) h
@@ -237,7 +237,7 @@ module _ (rd : Reading) where
 
   -- ---- the readers that may come to code
   module _ (o : ℕ) (cs : List ℕ) (at : ℕ) where
-    code-token_level : (kind : Kind) (x : Skip) → takes_code kind ≡ true → Level cs at (code_token kind o at x (code_depth rd cs at))
+    code-token_level : (kind : Kind) (x : Skip) → takes_code kind ≡ true → Level cs at (code_token kind o at x (code_depth_of rd cs at))
     unfolding deliver
     code-token_level kind (Past p m) k = record { is = (λ _. record { passed = 0; far = far_none cs at; depth = refl }, λ f. no (sym k ∙ f)) }
     code-token_level kind (Lost r p m) k = level_fail cs at r p m
@@ -327,17 +327,17 @@ module _ (rd : Reading) where
 
   level_told : (cs : List ℕ) (at g : ℕ) (x : Call) → Level cs at x → Level cs at (told g x)
   unfolding told
-  level_told cs at g x h = record { is = told_in cs at g x.code_depth_lem x.what h.is }
+  level_told cs at g x h = record { is = told_in cs at g x.code_depth x.what h.is }
 
   -- THE LAW, of every call
   pub next_level : (cs : List ℕ) (at : ℕ) → Level cs at (next rd cs at)
   unfolding next
   next_level cs at = go (gap cs at) refl (gap_sound cs at)
     where
-      go : (x : Skip) → gap cs at ≡ x → Sound cs at (gap cs at) → Level cs at (next_by rd cs x (gap_depth cs at))
+      go : (x : Skip) → gap cs at ≡ x → Sound cs at (gap cs at) → Level cs at (next_by rd cs x (gap_depth_of cs at))
       go (Past p m) e h =
           let f : Far cs at m p = (rw e at h).is in
-          level_told cs at (gap_depth cs at) _ (level_later cs at m p m _ f (token_level (drop m cs) p))
+          level_told cs at (gap_depth_of cs at) _ (level_later cs at m p m _ f (token_level (drop m cs) p))
       go (Lost r p m) e h = level_fail cs at r p m
 
   module _ (cs : List ℕ) (at : ℕ) (t : Token) where
@@ -345,48 +345,48 @@ module _ (rd : Reading) where
     unfolding next told
     tells e = go (gap cs at) e
       where
-        go : (x : Skip) → (next_by rd cs x (gap_depth cs at)).what ≡ Got t → Tells cs at (next_by rd cs x (gap_depth cs at)) t
+        go : (x : Skip) → (next_by rd cs x (gap_depth_of cs at)).what ≡ Got t → Tells cs at (next_by rd cs x (gap_depth_of cs at)) t
         go (Past p m) e =
             let y = more m (token_or_end rd (drop m cs) p) in
-            let u = untold (gap_depth cs at) y.code_depth_lem y.what t e in
-            record { gap_is = refl; gap-tells = ap (λ (z : Token). z.gap_depth_lem) u.with_depths; code-tells = ap (λ (z : Token). z.code_depth_lem) u.with_depths }
+            let u = untold (gap_depth_of cs at) y.code_depth y.what t e in
+            record { gap_is = refl; gap-tells = ap (λ (z : Token). z.gap_depth) u.with_depths; code-tells = ap (λ (z : Token). z.code_depth) u.with_depths }
         go (Lost r p m) e = let w : ◌≡◌ {A = ℕ} 0 1 = cc in absurd (omega arith)
 
-    level_got : (next rd cs at).what ≡ Got t → LevelIn cs at (next rd cs at).code_depth_lem (Got t)
+    level_got : (next rd cs at).what ≡ Got t → LevelIn cs at (next rd cs at).code_depth (Got t)
     level_got e = rw e at (next_level cs at).is
 
   -- ---- THE THEOREMS. Of a token of the text s from the place at on
   module _ (s : List ℕ) (at : ℕ) (t : Token) (got : (next rd (left s at) at).what ≡ Got t) where
     -- it tells the depth of its gap
-    pub gap-told : t.gap_depth_lem ≡ Is (gap_depth (left s at) at)
+    pub gap-told : t.gap_depth ≡ Is (gap_depth_of (left s at) at)
     gap-told = let h = tells (left s at) at t got in h.gap-tells ∙ ap Is h.gap_is
 
     -- a kind that takes code tells the depth of its code, which starts where its payload does
-    pub code-told : takes_code t.kind ≡ true → t.code_depth_lem ≡ Is (code_depth rd (left s t.payload_start) t.payload_start)
+    pub code-told : takes_code t.kind ≡ true → t.code_depth ≡ Is (code_depth_of rd (left s t.payload_start) t.payload_start)
     code-told k =
         let h = (level_got (left s at) at t got).0 k in
         let f : drop h.passed (left s at) ≡ left s t.payload_start = far_left s at h.passed t.payload_start h.far in
-        (tells (left s at) at t got).code-tells ∙ ap Is (h.depth ∙ ap (λ (l : List ℕ). code_depth rd l t.payload_start) f)
+        (tells (left s at) at t got).code-tells ∙ ap Is (h.depth ∙ ap (λ (l : List ℕ). code_depth_of rd l t.payload_start) f)
 
     -- every other kind tells 0
-    pub flat-told : takes_code t.kind ≡ false → t.code_depth_lem ≡ Is 0
+    pub flat-told : takes_code t.kind ≡ false → t.code_depth ≡ Is 0
     flat-told k = (tells (left s at) at t got).code-tells ∙ ap Is ((level_got (left s at) at t got).1 k)
 
   -- the end comes with the depth of the last gap
-  pub last-told : (s : List ℕ) (at : ℕ) → (next rd (left s at) at).what ≡ End → (next rd (left s at) at).gap_depth_lem ≡ gap_depth (left s at) at
+  pub last-told : (s : List ℕ) (at : ℕ) → (next rd (left s at) at).what ≡ End → (next rd (left s at) at).gap_depth ≡ gap_depth_of (left s at) at
   unfolding next told
   last-told s at e = go (gap (left s at) at) e
     where
-      go : (x : Skip) → (next_by rd (left s at) x (gap_depth (left s at) at)).what ≡ End → (next_by rd (left s at) x (gap_depth (left s at) at)).gap_depth_lem ≡ gap_depth (left s at) at
+      go : (x : Skip) → (next_by rd (left s at) x (gap_depth_of (left s at) at)).what ≡ End → (next_by rd (left s at) x (gap_depth_of (left s at) at)).gap_depth ≡ gap_depth_of (left s at) at
       go (Past p m) e = refl
       go (Lost r p m) e = let w : ◌≡◌ {A = ℕ} 0 1 = cc in absurd (omega arith)
 
   -- both depths of a call that delivers a token are no greater than the characters there are, and its token tells both
   pub next_small : (cs : List ℕ) (at : ℕ) (t : Token) → (next rd cs at).what ≡ Got t
-      → ((next rd cs at).gap_depth_lem ≤ length cs) × ((next rd cs at).code_depth_lem ≤ length cs) × (t.gap_depth_lem ≡ Is (next rd cs at).gap_depth_lem) × (t.code_depth_lem ≡ Is (next rd cs at).code_depth_lem)
+      → ((next rd cs at).gap_depth ≤ length cs) × ((next rd cs at).code_depth ≤ length cs) × (t.gap_depth ≡ Is (next rd cs at).gap_depth) × (t.code_depth ≡ Is (next rd cs at).code_depth)
   next_small cs at t e = let h = tells cs at t e in (rw h.gap_is (gap-small cs at), code (takes_code t.kind) refl, h.gap-tells, h.code-tells)
     where
-      code : (b : Bool) → takes_code t.kind ≡ b → (next rd cs at).code_depth_lem ≤ length cs
+      code : (b : Bool) → takes_code t.kind ≡ b → (next rd cs at).code_depth ≤ length cs
       code true k =
           let h = (level_got cs at t e).0 k in
           let l = code-small rd (drop h.passed cs) t.payload_start in

@@ -1,8 +1,9 @@
--- THE ORDER OF A RUN. Tokens ascend, none is empty, no two overlap; every call that delivers a token moves the cursor; a run delivers at most
--- as many tokens as there are characters. Of every run, ended or stopped by an error, 14 or 15, with any shift, limit and room, from any tokenizer.
+-- THE ORDER OF A RUN. What order is; every call that delivers a token moves the cursor; a run delivers at most as many tokens as there are
+-- characters. Of every run, ended or stopped by an error, 14 or 15, with any shift, limit and room, from any tokenizer. That tokens ascend is in
+-- proofs/Order.antt.
 use Prim.Native.Nat.{ℕ, zero, suc, ◌+◌, ◌-◌, ◌≤◌, ◌<◌}
 use Rattle.std.proofs.Common.{arith, sym, take_at}
-use Rattle.std.specs.Prelude.{Bool, List, [], ◌∷◌, ◌≡◌, ltb, get_or, take}
+use Rattle.std.specs.Prelude.{Bool, List, [], ◌∷◌, ◌≡◌, ltb, take}
 use Rattle.std.proofs.Math.Bool.{true, false}
 use Rattle.std.proofs.Math.Path.{refl, ap}
 use Rattle.std.proofs.Math.ListN.{length}
@@ -18,13 +19,13 @@ use Rattle.record.specs.declared.Token.{Token}
 use Rattle.scan.specs.Far.{lands}
 use Rattle.scan.specs.Near.{far_on}
 use Rattle.scan.specs.Until.{left}
-use Rattle.reading.specs.AnyCall.{step_reading}
+use Rattle.reading.proofs.AnyCall.{step_reading}
 use Rattle.reading.specs.Answers.{start_in}
-use Rattle.reading.specs.CallLaw.{Placed, next-laid}
+use Rattle.reading.proofs.CallLaw.{Placed, next-laid}
 use Rattle.reading.specs.Next.{next}
 use Rattle.reading.specs.Run.{run, run_from, run_from_with, run_with, shift_token, shift_what, step, step_by, step_in, step_with}
-use Rattle.reading.specs.Story.{run_end, run_error, run_full, run_got}
-use Rattle.reading.specs.Sums.{placed_far, placed_length}
+use Rattle.reading.proofs.Story.{run_end, run_error, run_full, run_got}
+use Rattle.reading.proofs.Sums.{placed_far, placed_length}
 use Rattle.reading.specs.declared.Outcome.{Outcome}
 use Rattle.reading.specs.declared.Outcome.TheVariants.{Ended, Refused, Running}
 use Rattle.reading.specs.declared.Stepped.{Stepped}
@@ -32,7 +33,6 @@ use Rattle.reading.specs.declared.Tokenizer.{Tokenizer}
 use Rattle.reading.specs.declared.What.{What}
 use Rattle.reading.specs.declared.What.TheVariants.{End, Error, Got}
 use Rattle.run.specs.Checked.{next_token, next_token_with, ran_of, ran_with, run_if, step_if, whole_run, whole_run_with}
-use Rattle.run.specs.Steps.{boundary-within}
 use Rattle.run.specs.declared.Ran.{Ran}
 
 -- each token starts at or after the end of the one before it, none is empty, and none ends beyond the place to
@@ -159,17 +159,6 @@ moves s shift limit t y e = go (checks s shift) (boundary s t.at) refl refl
 
 -- ---- the tokens of calls, one after the other
 module _ (rd : Reading) (s : List ℕ) (shift : ℕ) where
-  ordered-from : (from at : ℕ) (ts : List Token) → from ≤ at → at ≤ length s → Called rd s shift at ts → Ordered (from + shift) (length s + shift) ts
-  ordered-from from at [] f l c = tt
-  ordered-from from at (x ∷ ts) f l c =
-      let d = c.0 in
-      let t = d.token in
-      let a = start-on rd s at t d.got in
-      let b = not_empty rd s at t d.got in
-      let e = end_on rd s at t d.got in
-      let w = end-within rd s at t d.got l in
-      rw d.shifted (omega arith, omega arith, omega arith, ordered-from t.end (next rd (left s at) at).at ts e w c.1)
-
   few : (at : ℕ) (ts : List Token) → Called rd s shift at ts → length ts ≤ length (left s at)
   few at [] c = omega arith
   few at (x ∷ ts) c =
@@ -178,34 +167,8 @@ module _ (rd : Reading) (s : List ℕ) (shift : ℕ) where
       omega arith
 
 -- ---- THE THEOREMS
--- what Ordered says of any two tokens of a list
-module _ (d : Token) where
-  at_or_after : (from to : ℕ) (ts : List Token) (i : ℕ) → Ordered from to ts → i < length ts → from ≤ (get_or ts i d).start
-  at_or_after from to [] i o l = absurd (omega arith)
-  at_or_after from to (t ∷ ts) zero o l = o.0
-  at_or_after from to (t ∷ ts) (suc i) o l =
-      let h = at_or_after t.end to ts i o.3 (omega arith) in
-      omega (arith, o.0, o.1)
-
-  pub some : (from to : ℕ) (ts : List Token) (i : ℕ) → Ordered from to ts → i < length ts → (get_or ts i d).start < (get_or ts i d).end
-  some from to [] i o l = absurd (omega arith)
-  some from to (t ∷ ts) zero o l = o.1
-  some from to (t ∷ ts) (suc i) o l = some t.end to ts i o.3 (omega arith)
-
-  pub apart : (from to : ℕ) (ts : List Token) (i j : ℕ) → Ordered from to ts → i < j → j < length ts → (get_or ts i d).end ≤ (get_or ts j d).start
-  apart from to [] i j o l m = absurd (omega arith)
-  apart from to (t ∷ ts) i zero o l m = absurd (omega arith)
-  apart from to (t ∷ ts) zero (suc j) o l m = at_or_after t.end to ts j o.3 (omega arith)
-  apart from to (t ∷ ts) (suc i) (suc j) o l m = apart t.end to ts i j o.3 (omega arith) (omega arith)
-
 module _ (s : List ℕ) (shift limit room : ℕ) (t : Tokenizer) where
-  -- tokens ascend from the cursor on, none is empty, no two overlap, and none ends beyond the text
-  pub ordered : Ordered (t.at + shift) (length s + shift) (whole_run s shift limit room t).tokens
-  ordered =
-      of_run s shift limit room t (λ ts. Ordered (t.at + shift) (length s + shift) ts) tt
-      (λ a b c. ordered-from t.reading s shift t.at t.at (run s shift limit room t).tokens (omega arith) (boundary-within s t.at b) c)
-
-  -- and there are no more of them than there are characters left
+  -- there are no more tokens than there are characters left
   pub at-most-left : length (whole_run s shift limit room t).tokens ≤ length (left s t.at)
   at-most-left = few t.reading s shift t.at (whole_run s shift limit room t).tokens (called s shift limit room t)
 

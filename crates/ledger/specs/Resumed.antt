@@ -4,7 +4,7 @@ use Rattle.std.proofs.Common.{arith, ap, ◌∙◌}
 use Rattle.std.specs.Prelude.{Bool, false, List, [], ◌++◌, ◌≡◌, ltb, length}
 use Rattle.std.proofs.Math.Bool.{true}
 use Rattle.std.proofs.Math.Path.{refl, sym}
-use Rattle.utf8.specs.Laws.{boundary-whole, bounded}
+use Rattle.utf8.proofs.Laws.{boundary-whole, bounded}
 use Rattle.utf8.specs.Utf8.{boundary}
 use Rattle.record.specs.Allowed.{allowed}
 use Rattle.record.specs.Checks.{checks}
@@ -17,8 +17,8 @@ use Rattle.record.specs.declared.Token.{Token}
 use Rattle.scan.specs.Until.{left}
 use Rattle.reading.specs.Next.{next}
 use Rattle.reading.specs.Run.{Run, done_by, run, run_from, run_from_with, run_with, shift_what, step, step_by, step_in, step_with, stopped}
-use Rattle.reading.specs.Story.{run_end, run_error, run_full, run_got}
-use Rattle.reading.specs.Sums.{placed_far}
+use Rattle.reading.proofs.Story.{run_end, run_error, run_full, run_got}
+use Rattle.reading.proofs.Sums.{placed_far}
 use Rattle.reading.specs.declared.Outcome.{Outcome}
 use Rattle.reading.specs.declared.Outcome.TheVariants.{Ended, Refused, Running}
 use Rattle.reading.specs.declared.Tokenizer.{Tokenizer}

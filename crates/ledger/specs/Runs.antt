@@ -1,5 +1,6 @@
--- The theorems about the definition of a run, brought to what a run reports: the three checks and the boundary come before the reading.
-use Rattle.std.specs.Prelude.{◌*◌, ◌+◌, ◌-◌, ◌≤◌, suc, ℕ, Bool, cond, List, ◌≡◌, length}
+-- The theorems about the definition of a run, brought to what a run reports: the three checks and the boundary come before the reading. What a run
+-- counts is in proofs/Runs.antt.
+use Rattle.std.specs.Prelude.{◌*◌, ◌+◌, ◌-◌, ◌≤◌, ℕ, Bool, cond, List, ◌≡◌, length}
 use Rattle.std.proofs.Common.{arith}
 use Rattle.std.proofs.Math.Bool.{false, true}
 use Rattle.std.proofs.Math.Path.{refl}
@@ -16,13 +17,12 @@ use Rattle.record.specs.declared.Code.TheVariants.{BadRecord}
 use Rattle.record.specs.declared.Reading.{Reading}
 use Rattle.record.specs.declared.Refusal.{Refusal}
 use Rattle.reading.specs.Answers.{start_in}
-use Rattle.reading.specs.Ledger.{advances_at-end, advances_bounded, stops, tiled_at-end}
+use Rattle.reading.proofs.Ledger.{advances_at-end, advances_bounded, stops, tiled_at-end}
 use Rattle.reading.specs.Measures.{Tiled, attempts, hashes, marks}
-use Rattle.reading.specs.Run.{Run, run, run_with, stopped}
+use Rattle.reading.specs.Run.{Run, run, stopped}
 use Rattle.reading.specs.declared.Outcome.TheVariants.{Ended, Refused, Running}
 use Rattle.run.specs.Checked.{count_if, run_if, whole_run, whole_run_with}
 use Rattle.ledger.specs.Codes.{is_error}
-use Rattle.ledger.specs.Spent.{final_call, spent, spent-run}
 
 -- none of the checks' codes is an error of the reading
 pub checks-other : (s : List ℕ) (shift : ℕ) → Refuses (λ (c : Code). is_error c ≡ false) (checks s shift)
@@ -30,7 +30,7 @@ checks-other s shift = checks-refuse (λ c. is_error c ≡ false) refl refl refl
 
 module _ (rd : Reading) (s : List ℕ) (shift limit room : ℕ) where
   -- a run that is read, or one that is refused before any reading
-  whole_by : (P : Checked → Run → Type 0) → (checks s shift ≡ Passed → P Passed (run s shift limit room (start_in rd)))
+  pub whole_by : (P : Checked → Run → Type 0) → (checks s shift ≡ Passed → P Passed (run s shift limit room (start_in rd)))
       → ((c : Checked) (z : Refusal) → is_error z.code ≡ false → P c (stopped (Refused z) (start_in rd))) → P (checks s shift) (whole_run s shift limit room (start_in rd))
   unfolding whole_run_with
   whole_by P f g = go (checks s shift) refl (checks-other s shift)
@@ -66,7 +66,7 @@ module _ (rd : Reading) (s : List ℕ) (shift limit room : ℕ) where
   pub over_law : Over (checks s shift) (whole_run s shift limit room (start_in rd))
   over_law = whole_by Over (λ p. stops rd s shift limit room) (λ c z q. not-running z)
 
-  none : (c : Checked) → count_if c 0 ≡ 0
+  pub none : (c : Checked) → count_if c 0 ≡ 0
   none Passed = refl
   none (Stopped r) = refl
 
@@ -76,17 +76,3 @@ module _ (rd : Reading) (s : List ℕ) (shift limit room : ℕ) where
 
   pub bound_law : Bound (checks s shift) (whole_run s shift limit room (start_in rd))
   bound_law = whole_by Bound (λ p. advances_bounded rd s shift limit room) (λ c z q. rw (none c) (omega arith))
-
-  abbrev Counts : Checked → Run → Type 0
-  Counts c r = count_if c r.state.count ≡ spent rd s (length r.tokens + final_call r.how) 0
-
-  read-counts : Counts Passed (run s shift limit room (start_in rd))
-  unfolding run_with
-  read-counts = let h = spent-run s shift limit (suc (length s)) room (start_in rd) refl in omega (arith, h)
-
-  none-counts : (c : Checked) (z : Refusal) → is_error z.code ≡ false → Counts c (stopped (Refused z) (start_in rd))
-  unfolding spent
-  none-counts c z q = rw (q, none c)
-
-  pub spent_law : Counts (checks s shift) (whole_run s shift limit room (start_in rd))
-  spent_law = whole_by Counts (λ p. read-counts) none-counts

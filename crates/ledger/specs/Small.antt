@@ -14,8 +14,8 @@ use Rattle.scan.specs.declared.Com.{Com}
 use Rattle.scan.specs.declared.Com.TheVariants.{Open}
 use Rattle.scan.specs.declared.Turn.{Turn}
 use Rattle.scan.specs.declared.Turn.TheVariants.{Fail, Pass, Stop}
-use Rattle.code.specs.Code.{code_depth, code_turn}
-use Rattle.reading.specs.Gaps.{gap_depth, gap_turn}
+use Rattle.code.specs.Code.{code_depth_of, code_turn}
+use Rattle.reading.specs.Gaps.{gap_depth_of, gap_turn}
 
 -- the greater of two is no more than what both are no more than
 deeper-most : (a b z : ℕ) → a ≤ z → b ≤ z → deeper a b ≤ z
@@ -62,8 +62,8 @@ module _ (see : ℕ → ℕ → List ℕ → ℕ → ℕ → Turn) (m : ℕ) whe
       go (Pass p j b') f = let w = cover_small c cs in f j b' (deeper d (cover_depth c cs)) (deeper-most d (cover_depth c cs) m h (omega arith))
 
 -- ---- THE LAWS, of a gap and of code
-pub gap-small : (cs : List ℕ) (at : ℕ) → gap_depth cs at ≤ length cs
+pub gap-small : (cs : List ℕ) (at : ℕ) → gap_depth_of cs at ≤ length cs
 gap-small cs at = walk-small gap_turn (length cs) 0 cs 0 at 0 (omega arith) (omega arith)
 
-pub code-small : (rd : Reading) (cs : List ℕ) (at : ℕ) → code_depth rd cs at ≤ length cs
+pub code-small : (rd : Reading) (cs : List ℕ) (at : ℕ) → code_depth_of rd cs at ≤ length cs
 code-small rd cs at = walk-small (code_turn rd) (length cs) 0 cs 0 at 0 (omega arith) (omega arith)

@@ -1,4 +1,6 @@
 // Callers with plain parameters: a tokenizer and a list of records that stand in locals are lent here, so that a program need not lend them.
+#![tactic(auto)]
+
 ghost use Rattle.std.specs.Prelude.{◌≡◌, ◌+◌, ◌*◌, ◌<◌, ◌≤◌, map, get_or, length, take};
 ghost use Rattle.std.proofs.lemmas.List.Edits.{sets};
 ghost use Rattle.record.specs.Records.{over};
@@ -16,7 +18,7 @@ use record::{Kind, Token};
 use run::Ran;
 
 // What the single call answers, and the tokenizer that it leaves.
-#[derive(Drop)]
+#[derive(Clone, Copy)]
 pub struct Called {
     pub what: What,
     pub next: Tokenizer,
@@ -38,7 +40,7 @@ const LIST_ROOM: usize = 32768;
 const GROUP_SIZE: usize = 5;
 
 // A turn of the loop that copies records, of so many.
-#[derive(Drop)]
+#[derive(Clone, Copy)]
 pub struct Turn {
     pub going: bool,
     pub at: usize,
@@ -154,7 +156,7 @@ pub fn read_listed(file: &[u8], records: &mut [u64]) -> Answer
 const HIGHEST_LIMIT: u64 = 18446744073709551615;
 
 // What a run answered, and the writer after it.
-#[derive(Drop)]
+#[derive(Clone, Copy)]
 pub struct Packed {
     pub ran: Ran,
     pub written: Answer,

@@ -1,14 +1,13 @@
 -- The answers of the check of a file, one law each.
 use Prim.Native.Nat.{ℕ, ◌+◌, ◌*◌, ◌≤◌, ◌<◌}
-use mathlib.Core.Path.{◌≡◌, refl}
+use mathlib.Core.Path.{◌≡◌}
 use mathlib.Core.Bool.{true, false}
 use mathlib.Core.List.{List}
 use lib.ListN.{length}
 use borrow.Author.Tests.{lt-ltb, le-ltb, eq-eqb, ne_eqb}
 use Rattle.record.specs.declared.Code.TheVariants.{BadMark, UnknownVersion, BadLength}
 use Rattle.record.specs.Records.{refusal}
-use Rattle.ltk.specs.declared.Answer.{Answer}
-use Rattle.ltk.specs.declared.Answer.TheVariants.{Done, Refused}
+use Rattle.ltk.specs.declared.Answer.TheVariants.{Refused}
 use Rattle.ltk.specs.Layout.{version, version_place, header_size, record_place, number_at}
 use Rattle.ltk.specs.Ltk.{marked, count_in, entries_of, judge, file_check}
 

@@ -1,18 +1,16 @@
 -- The pure side of the loops that test records, wherever the records come from.
-use Prim.Native.Nat.{ℕ, zero, suc, ◌+◌, ◌-◌, ◌≤◌, ◌<◌}
+use Prim.Native.Nat.{ℕ, suc, ◌+◌, ◌-◌, ◌≤◌, ◌<◌}
 use mathlib.Core.Path.{◌≡◌, refl, sym, ap, subst, ◌∙◌}
-use mathlib.Core.Bool.{Bool, true, false, cond}
+use mathlib.Core.Bool.{true, false, cond}
 use mathlib.Core.List.{List, [], ◌∷◌}
 use native.Mathlib.Omega.{arith}
 use native.Mathlib.Numerals.{add-one}
 use lib.Dec.{T, ltb}
-use lib.ListN.{length, get_or, drop, drop_of_length-le}
+use lib.ListN.{length, drop, drop_of_length-le}
 use lib.Seq.{drop-cons}
 use borrow.Author.Tests.{ltb-true, ltb-false}
 use Rattle.utf8.specs.Picks.{by_test}
 use Rattle.ltk.specs.declared.Entry.{Entry}
-use Rattle.ltk.specs.declared.Answer.{Answer}
-use Rattle.ltk.specs.declared.Answer.TheVariants.{Done, Refused}
 use Rattle.ltk.specs.declared.Tests.{Tests}
 use Rattle.ltk.specs.Ltk.{bad, bad_record, judged, judge, listed}
 use Rattle.ltk.specs.Laws.{length-listed, at_first}

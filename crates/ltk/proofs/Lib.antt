@@ -5,4 +5,3 @@ pub mod Checking
 pub mod Laying
 pub mod Writing
 pub mod Reading
-pub mod Lent

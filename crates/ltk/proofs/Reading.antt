@@ -1,7 +1,7 @@
 -- The pure side of the readers: what the list holds afterwards.
 use Prim.Native.Nat.{ℕ, suc, ◌+◌, ◌-◌, ◌*◌, ◌/◌, ◌≤◌, ◌<◌}
 use mathlib.Core.Path.{◌≡◌, refl, sym, ap, subst, ◌∙◌}
-use mathlib.Core.Bool.{Bool, true, false, cond}
+use mathlib.Core.Bool.{true, false}
 use mathlib.Core.List.{List, map}
 use native.Mathlib.Omega.{arith}
 use lib.Dec.{T, ltb}
@@ -14,7 +14,7 @@ use Rattle.record.specs.Records.{over}
 use Rattle.record.specs.Stores.{sets_over}
 use Rattle.ltk.specs.declared.Pending.{Pending}
 use Rattle.ltk.specs.declared.Answer.{Answer}
-use Rattle.ltk.specs.Ltk.{group_size, numbers_in, flat, token_in, entry_at, listed, entries_of, file_check, room_for, read_answer, delivered, read_tokens, read_numbers}
+use Rattle.ltk.specs.Ltk.{group_size, numbers_in, flat, token_in, entry_at, listed, entries_of, file_check, read_answer, delivered, read_tokens, read_numbers}
 use Rattle.ltk.specs.Steps.{no_token, pending_at}
 use Rattle.ltk.specs.Laws.{length-listed}
 use Rattle.ltk.specs.Faithful.{room-read}

@@ -1,11 +1,11 @@
 -- The pure side of the writers: what the plan says of the answer and of the bytes.
-use Prim.Native.Nat.{ℕ, zero, suc, ◌+◌, ◌-◌, ◌*◌, ◌≤◌, ◌<◌}
+use Prim.Native.Nat.{ℕ, ◌+◌, ◌-◌, ◌*◌, ◌≤◌, ◌<◌}
 use mathlib.Core.Path.{◌≡◌, refl, sym, ap, subst, ◌∙◌}
-use mathlib.Core.Bool.{Bool, true, false, cond}
+use mathlib.Core.Bool.{Bool, true, false}
 use mathlib.Core.List.{List, [], ◌∷◌, ◌++◌, map}
 use native.Mathlib.Omega.{arith}
 use lib.Dec.{T, ltb}
-use lib.ListN.{length, drop, length-map, get_or-map}
+use lib.ListN.{length, length-map, get_or-map}
 use lib.Seq.{sets, length-sets, ext_get_or}
 use borrow.Author.Tests.{le-ltb, ltb-false}
 use Rattle.utf8.specs.Picks.{by_test}
@@ -19,8 +19,8 @@ use Rattle.ltk.specs.declared.Answer.{Answer}
 use Rattle.ltk.specs.declared.Answer.TheVariants.{Done, Refused}
 use Rattle.ltk.specs.declared.Plan.{Plan}
 use Rattle.ltk.specs.Layout.{header_size, record_size, count_limit, record_place}
-use Rattle.ltk.specs.Ltk.{entry_of, header_bytes, flat, records_bytes, image, judged, judge, listed, delivered, bytes_for, write_answer, written_bytes}
-use Rattle.ltk.specs.Steps.{no_token, token_entry, plan_for, planned, headed}
+use Rattle.ltk.specs.Ltk.{entry_of, header_bytes, flat, records_bytes, image, judged, judge, listed, delivered, write_answer, written_bytes}
+use Rattle.ltk.specs.Steps.{no_token, token_entry, planned, headed}
 use Rattle.ltk.specs.Laws.{length-listed, at_first, judged_done, length_header, length-image}
 
 no : {X : Type 0} → true ≡ false → X

@@ -8,7 +8,7 @@ use Rattle.ltk.specs.declared.Entry.{Entry}
 use Rattle.ltk.specs.declared.Answer.{Answer}
 use Rattle.ltk.specs.declared.Answer.TheVariants.{Done, Refused}
 use Rattle.ltk.specs.Layout.{little, number_at}
-use Rattle.ltk.specs.Ltk.{entry, record_bytes, header_bytes, flat, records_bytes, image, judged, listed, file_check, read_answer, write_answer, written_bytes}
+use Rattle.ltk.specs.Ltk.{entry, record_bytes, header_bytes, flat, records_bytes, image, judged, listed, file_check, read_answer, write_answer}
 
 abbrev no : Code → ℕ → Answer
 no code place = Refused (refusal code place)

@@ -1,7 +1,7 @@
 -- The LTK file is faithful: reading gives what was written, writing gives what was read, and every file is refused or is an image.
-use Rattle.std.specs.Prelude.{ℕ, zero, suc, ◌+◌, ◌*◌, ◌≤◌, ◌<◌, ◌≡◌, Bool, true, false, cond, ◌&&◌, ◌⊎◌, ltb, leb, eqb, length, get_or, take, drop}
+use Rattle.std.specs.Prelude.{ℕ, zero, suc, ◌+◌, ◌*◌, ◌≤◌, ◌<◌, ◌≡◌, Bool, true, false, cond, ◌&&◌, ◌⊎◌, ltb, eqb, length, get_or, take}
 use Rattle.std.proofs.Math.Path.{refl, ap}
-use Rattle.std.proofs.Common.{sym, subst, ◌∙◌, inl, inr, arith, length-append, lt-ltb, le-ltb, eq-eqb, ltb-true, ltb-false, eqb-true}
+use Rattle.std.proofs.Common.{sym, ◌∙◌, inl, inr, arith, lt-ltb, le-ltb, eq-eqb, ltb-false, eqb-true}
 use mathlib.Core.List.{List, [], ◌∷◌, ◌++◌, map, append_assoc}
 use Rattle.std.proofs.lemmas.List.{length-map}
 use Rattle.std.proofs.Math.ListN.{get_or-map}
@@ -11,7 +11,7 @@ use Rattle.utf8.specs.Picks.{by_test}
 use Rattle.record.specs.declared.Kind.TheVariants.{Enum}
 use Rattle.record.specs.declared.Refusal.{Refusal}
 use Rattle.record.specs.declared.Token.{Token}
-use Rattle.record.specs.declared.Code.TheVariants.{TooLong, NoRoom, BadMark, UnknownVersion, BadLength}
+use Rattle.record.specs.declared.Code.TheVariants.{TooLong, NoRoom}
 use Rattle.record.specs.Numbers.{kind_number, kinds, kind_of, kind_again}
 use Rattle.record.specs.Records.{refusal, token_of}
 use Rattle.ltk.specs.declared.Entry.{Entry}
@@ -19,9 +19,9 @@ use Rattle.ltk.specs.declared.Answer.{Answer}
 use Rattle.ltk.specs.declared.Found.TheVariants as Found
 use Rattle.ltk.specs.declared.Answer.TheVariants.{Done, Refused}
 use Rattle.ltk.specs.Layout.{mark, version, version_place, count_place, header_size, record_size, count_limit, record_place, little, number_at}
-use Rattle.ltk.specs.Ltk.{entry_of, kind_in, token_in, record_bytes, header_bytes, flat, records_bytes, image, judged, judge, passing, records_ok, marked, count_in, entry_at, listed, entries_of, entries, file_check, room_for, read_answer, delivered, read_tokens, record_at, bytes_for, write_answer, bytes_by, written_bytes}
+use Rattle.ltk.specs.Ltk.{entry_of, kind_in, token_in, header_bytes, records_bytes, image, judged, judge, passing, records_ok, marked, count_in, entry_at, listed, entries_of, entries, file_check, room_for, read_answer, delivered, read_tokens, record_at, bytes_for, write_answer, written_bytes}
 use Rattle.ltk.specs.Reasons.{Meets, one_reason, refused_met}
-use Rattle.ltk.specs.Laws.{Bytes, Small, AllSmall, number_on, number_little, little_number, length-little, length-listed, at_first, passing-small, passing-judged, judged_done, length_header, length-image, records_back, bytes_back}
+use Rattle.ltk.specs.Laws.{Bytes, Small, AllSmall, number_on, number_little, little_number, length-listed, at_first, passing-small, passing-judged, judged_done, length_header, length-image, records_back, bytes_back}
 
 -- a list that the writer takes: its count fits, and no record of it is bad
 pub record Fine (es : List Entry) : Type 0 where

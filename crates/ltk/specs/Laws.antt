@@ -1,20 +1,18 @@
 -- Laws of the layout: numbers as bytes and back, records as bytes and back, and what passed tests tell.
 use Prim.Native.Nat.{ℕ, zero, suc, ◌+◌, ◌*◌, ◌/◌, ◌%◌, ◌^◌, ◌≤◌, ◌<◌}
-use Rattle.std.specs.Prelude.{◌≡◌, Bool, true, false, cond, not, ◌||◌, ◌&&◌, List, [], ◌∷◌, ◌++◌, ltb, leb, eqb, length, get_or, take, set}
+use Rattle.std.specs.Prelude.{◌≡◌, Bool, true, false, cond, not, ◌||◌, ◌&&◌, List, [], ◌∷◌, ◌++◌, ltb, leb, length, get_or, take}
 use Rattle.std.proofs.Math.Path.{refl, ap}
-use Rattle.std.proofs.Common.{sym, subst, ◌∙◌, append_assoc, length-append, get_or-append-add, take_all, lt-ltb, le-ltb, eq-eqb, ltb-true, ltb-false, leb-true, leb-false, eqb-true}
+use Rattle.std.proofs.Common.{sym, ◌∙◌, append_assoc, length-append, ltb-false, leb-false}
 use native.Mathlib.Omega.{arith}
 use Rattle.std.proofs.Math.Numerals.{add-one}
 use Rattle.std.proofs.Math.ListN.{drop}
 use Rattle.std.proofs.Math.Seq.{drop-cons, take-add, drop-drop}
-use Rattle.std.proofs.lemmas.List.Edits.{sets, sets-eq}
-use Rattle.utf8.specs.Picks.{tests}
 use Rattle.record.specs.Checks.{text_limit}
 use Rattle.ltk.specs.declared.Entry.{Entry}
 use Rattle.ltk.specs.declared.Answer.{Answer}
-use Rattle.ltk.specs.declared.Answer.TheVariants.{Done, Refused}
-use Rattle.ltk.specs.Layout.{mark, version, version_place, count_place, header_size, record_size, count_limit, record_place, little, number_at}
-use Rattle.ltk.specs.Ltk.{entry, record_bytes, header_bytes, flat, records_bytes, image, bad, bad_record, judged, judge, passing, marked, count_in, entry_at, listed, entries, file_check}
+use Rattle.ltk.specs.declared.Answer.TheVariants.{Done}
+use Rattle.ltk.specs.Layout.{header_size, record_size, record_place, little, number_at}
+use Rattle.ltk.specs.Ltk.{entry, record_bytes, header_bytes, flat, records_bytes, image, bad, bad_record, judged, judge, passing, entry_at, listed}
 
 -- every number of a list is a byte
 abbrev pub Bytes : List ℕ → Type 0

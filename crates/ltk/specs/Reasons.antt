@@ -1,14 +1,13 @@
 -- The conditions of the file's refusals, each by itself: a file is refused for r exactly if it meets r's, so it meets no two.
-use Rattle.std.specs.Prelude.{ℕ, ◌<◌, ◌≤◌, Bool, true, false, cond, List, ◌≡◌, refl, eqb, ltb, length}
-use Rattle.std.proofs.Common.{arith, eq-eqb, le-ltb, lt-ltb, ne_eqb, sym, ap, ◌∙◌}
+use Rattle.std.specs.Prelude.{ℕ, ◌<◌, ◌≤◌, Bool, true, false, List, ◌≡◌, refl, eqb, ltb, length}
+use Rattle.std.proofs.Common.{le-ltb, lt-ltb, sym, ◌∙◌}
 use Rattle.utf8.specs.Picks.{tests}
 use Rattle.record.specs.Records.{refusal}
-use Rattle.record.specs.declared.Code.TheVariants.{BadLength, BadMark, BadRecord, UnknownVersion}
+use Rattle.record.specs.declared.Code.TheVariants.{BadLength, BadMark, UnknownVersion}
 use Rattle.record.specs.declared.Refusal.{Refusal}
 use Rattle.ltk.specs.Layout.{header_size, number_at, record_place, version, version_place}
 use Rattle.ltk.specs.Ltk.{bad_record, count_in, entries, file_check, judge, marked}
-use Rattle.ltk.specs.declared.Answer.{Answer}
-use Rattle.ltk.specs.declared.Answer.TheVariants.{Done, Refused}
+use Rattle.ltk.specs.declared.Answer.TheVariants.{Refused}
 
 -- 01: "17 comes first, for a mark wrong or cut; with fewer than 9 bytes 19 is next. Then 18, then 19 if length isn't 9 + 9 × count, then 20"
 pub data Meets (s : List ℕ) (r : Refusal) : Type 0 where

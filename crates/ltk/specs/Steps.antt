@@ -1,5 +1,5 @@
 -- The steps that the loops take.
-use Rattle.std.specs.Prelude.{ℕ, ◌+◌, Bool, true, false, cond, List, ltb, get_or}
+use Rattle.std.specs.Prelude.{ℕ, ◌+◌, true, false, cond, List, ltb, get_or}
 use Rattle.std.proofs.lemmas.List.Edits.{sets}
 use Rattle.record.specs.declared.Kind.TheVariants.{Enum}
 use Rattle.record.specs.declared.Refusal.{Refusal}
@@ -14,7 +14,7 @@ use Rattle.ltk.specs.declared.Pending.{Pending}
 use Rattle.ltk.specs.declared.Plan.{Plan}
 use Rattle.ltk.specs.declared.Turn.{Turn}
 use Rattle.ltk.specs.Layout.{count_limit, record_place}
-use Rattle.ltk.specs.Ltk.{bad, bad_record, entry_of, entry_at, token_in, delivered, read_answer, header_bytes}
+use Rattle.ltk.specs.Ltk.{bad, bad_record, entry_of, entry_at, token_in, delivered, header_bytes}
 
 -- the records before index at passed the tests, the last of them ending at end
 abbrev pub tests_at : ℕ → ℕ → ℕ → Tests

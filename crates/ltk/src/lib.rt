@@ -1,4 +1,6 @@
 // The LTK file: a list of token records as bytes.
+#![tactic(auto)]
+
 pub mod layout;
 
 ghost use Rattle.std.specs.Prelude.{◌≡◌, true, ◌+◌, ◌-◌, ◌*◌, ◌/◌, ◌<◌, ◌≤◌, map, length, get_or};
@@ -16,7 +18,7 @@ use layout::{
 use record::{Code, Kind, Known, Refusal, TEXT_LIMIT, Token};
 
 // A record as the file has it.
-#[derive(Drop)]
+#[derive(Clone, Copy)]
 pub struct Entry {
     pub kind: u64,
     pub start: u64,
@@ -24,21 +26,21 @@ pub struct Entry {
 }
 
 // How many records were read, or bytes written; or why none were.
-#[derive(Drop)]
+#[derive(Clone, Copy)]
 pub enum Answer {
     Done(usize),
     Refused(Refusal),
 }
 
 // One record of a file.
-#[derive(Drop)]
+#[derive(Clone, Copy)]
 pub enum Found {
     Record(Token),
     Nothing,
 }
 
 // How far the tests of a list have come.
-#[derive(Drop)]
+#[derive(Clone, Copy)]
 pub struct Tests {
     pub going: bool,
     pub at: usize,
@@ -47,7 +49,7 @@ pub struct Tests {
 }
 
 // A record that is read and not stored yet.
-#[derive(Drop)]
+#[derive(Clone, Copy)]
 pub struct Pending {
     pub going: bool,
     pub at: usize,
@@ -56,7 +58,7 @@ pub struct Pending {
 }
 
 // What the writer is to do.
-#[derive(Drop)]
+#[derive(Clone, Copy)]
 pub struct Plan {
     pub going: bool,
     pub count: usize,
@@ -458,7 +460,7 @@ pub fn read(file: &[u8], list: &mut [Token]) -> Answer
 }
 
 // A turn of the writer's loop.
-#[derive(Drop)]
+#[derive(Clone, Copy)]
 pub struct Turn {
     pub going: bool,
     pub at: usize,

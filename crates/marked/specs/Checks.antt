@@ -1,13 +1,13 @@
 -- What the checks of parts and the place reporter answer, by computation.
 use Rattle.std.specs.Prelude.{List, [], ◌∷◌, ◌≡◌, refl, ℕ}
-use Rattle.utf8.specs.Utf8.{boundary, chars, chars_from, high, lead, low, sight, width_of}
+use Rattle.utf8.specs.Utf8.{chars, chars_from, high, lead, low, sight, width_of}
 use Rattle.record.specs.Records.{refusal, token_of}
 use Rattle.record.specs.declared.Checked.{Checked}
 use Rattle.record.specs.declared.Checked.TheVariants.{Passed, Refused}
 use Rattle.record.specs.declared.Code.TheVariants.{BadRecord}
 use Rattle.record.specs.declared.Kind.TheVariants.{RegexLiteral}
 use Rattle.run.specs.Payload.{is_payload, payload, payload_check}
-use Rattle.escapes.specs.Answers.{inside, range_check}
+use Rattle.escapes.specs.Answers.{range_check}
 use Rattle.place.specs.Place.{before, bytes_to, ends, line_end, line_column, lines_ended, place_at, starts_newline, units, units_since}
 use Rattle.place.specs.declared.Place.{Place}
 

@@ -6,7 +6,7 @@ use Rattle.escapes.specs.Answers.{applied, expanded}
 use Rattle.escapes.specs.Escapes.{ascii_escape, digit, escape as escapeOf, expand, expand_from, has_byte, stands}
 use Rattle.ltk.specs.Layout.{little, number_at}
 use Rattle.ltk.specs.Ltk.{file_check, flat, header_bytes, image, judged, listed, read_answer, read_numbers, record_bytes, write_answer, written_bytes}
-use Rattle.run.specs.Numbers.{groups, numbers_all}
+use Rattle.run.specs.Numbers.{groups}
 use Rattle.utf8.specs.Utf8.{chars, chars_from, high, lead, low, reach, sight, width_of}
 use Rattle.unicode_xid.specs.Ranges.{holds, in_ranges}
 use Rattle.unicode_xid.specs.Tables.{continue_ranges, start_ranges}

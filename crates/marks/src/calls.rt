@@ -5,9 +5,10 @@ use record::Token;
 
 const MOST: u64 = 18446744073709551615;
 
-fn token(t: Token) {
+fn token(rt: &impl Print, t: Token) {
     let k = t.kind;
     record_line(
+        rt,
         record::kind_number(k) as u64,
         t.start,
         t.end,
@@ -17,47 +18,51 @@ fn token(t: Token) {
 }
 
 // A call, and the tokenizer after it.
-fn call(text: &[u8], t: Tokenizer) -> Tokenizer {
+fn call(rt: &impl Print, text: &[u8], t: Tokenizer) -> Tokenizer {
     let s = lent::next_lent(text, 0, MOST, t);
     let what = s.what;
     match what {
-        What::Got(x) => token(x),
-        What::Error(r) => refusal(r),
-        What::End => say(b"end\n"),
+        What::Got(x) => token(rt, x),
+        What::Error(r) => refusal(rt, r),
+        What::End => say(rt, b"end\n"),
     }
     s.next
 }
 
 // Three calls.
-fn calls(text: &[u8], t: Tokenizer) -> Tokenizer {
-    let a = call(text, t);
-    let b = call(text, a);
-    call(text, b)
+fn calls(rt: &impl Print, text: &[u8], t: Tokenizer) -> Tokenizer {
+    let a = call(rt, text, t);
+    let b = call(rt, text, a);
+    call(rt, text, b)
 }
 
-pub(crate) fn to_the_end() {
-    named(b"a ; call by call");
-    let a = calls(b"a ;", tok::start());
-    state(call(b"a ;", a));
+pub(crate) fn to_the_end(rt: &impl Print) {
+    named(rt, b"a ; call by call");
+    let a = calls(rt, b"a ;", tok::start());
+    state(rt, call(rt, b"a ;", a));
 }
 
-pub(crate) fn to_an_error() {
-    named(b"a $ call by call");
-    state(calls(b"a $", tok::start()));
+pub(crate) fn to_an_error(rt: &impl Print) {
+    named(rt, b"a $ call by call");
+    state(rt, calls(rt, b"a $", tok::start()));
 }
 
-pub(crate) fn off_the_boundaries() {
-    named(b"a two-byte letter, from its middle");
+pub(crate) fn off_the_boundaries(rt: &impl Print) {
+    named(rt, b"a two-byte letter, from its middle");
     let t = tok::start();
     let done = t.done;
     let reading = t.reading;
-    state(call(
-        b"\xc3\xa9",
-        Tokenizer {
-            at: 1,
-            count: 9,
-            done,
-            reading,
-        },
-    ));
+    state(
+        rt,
+        call(
+            rt,
+            b"\xc3\xa9",
+            Tokenizer {
+                at: 1,
+                count: 9,
+                done,
+                reading,
+            },
+        ),
+    );
 }

@@ -1,42 +1,42 @@
 // What this program prints with.
-use libc::STDOUT_FILENO;
 use reading::{Outcome, Tokenizer};
 use record::Refusal;
 use text::Came;
 
-pub(crate) fn say(words: &[u8]) {
-    io::write_all(STDOUT_FILENO, words);
+// What cannot be written is let go.
+pub(crate) fn say(rt: &impl Print, words: &[u8]) {
+    let _ = rt.write_all(words);
 }
 
-fn number(n: u64) {
-    io::print_decimal(STDOUT_FILENO, n);
+fn number(rt: &impl Print, n: u64) {
+    let _ = print!(rt; "{n}");
 }
 
 // The bytes of a buffer up to where they came.
-fn came(buffer: &[u8], to: Came) {
+fn came(rt: &impl Print, buffer: &[u8], to: Came) {
     match to {
         Came::To(n) => {
             if n <= buffer.len() {
-                say(&buffer[..n]);
+                say(rt, &buffer[..n]);
             }
         }
-        Came::Full => say(b"does not fit"),
+        Came::Full => say(rt, b"does not fit"),
     }
 }
 
-pub(crate) fn named(name: &[u8]) {
-    say(name);
-    say(b"\n");
+pub(crate) fn named(rt: &impl Print, name: &[u8]) {
+    say(rt, name);
+    say(rt, b"\n");
 }
 
-fn kind(n: u64) {
+fn kind(rt: &impl Print, n: u64) {
     let mut buffer = [0u8; 32];
     let to = text::kind_name(&mut buffer, Came::To(0), n);
-    came(&buffer, to);
+    came(rt, &buffer, to);
 }
 
 // `error NAME at P`
-pub(crate) fn refusal(r: Refusal) {
+pub(crate) fn refusal(rt: &impl Print, r: Refusal) {
     let c = r.code;
     let mut buffer = [0u8; 128];
     let to = text::refusal_line(
@@ -45,26 +45,26 @@ pub(crate) fn refusal(r: Refusal) {
         record::code_number(c) as u64,
         r.place,
     );
-    came(&buffer, to);
+    came(rt, &buffer, to);
 }
 
 // A record's line, with its payload's places where it has one.
-pub(crate) fn record_line(k: u64, start: u64, end: u64, a: u64, b: u64) {
-    number(start);
-    say(b" ");
-    number(end);
-    say(b" ");
-    kind(k);
+pub(crate) fn record_line(rt: &impl Print, k: u64, start: u64, end: u64, a: u64, b: u64) {
+    number(rt, start);
+    say(rt, b" ");
+    number(rt, end);
+    say(rt, b" ");
+    kind(rt, k);
     if (a != start) | (b != start) {
-        say(b" payload ");
-        number(a);
-        say(b" ");
-        number(b);
+        say(rt, b" payload ");
+        number(rt, a);
+        say(rt, b" ");
+        number(rt, b);
     }
-    say(b"\n");
+    say(rt, b"\n");
 }
 
-fn error_line(r: Refusal, advances: u64) {
+fn error_line(rt: &impl Print, r: Refusal, advances: u64) {
     let c = r.code;
     let mut buffer = [0u8; 128];
     let to = text::error_line(
@@ -74,27 +74,27 @@ fn error_line(r: Refusal, advances: u64) {
         r.place,
         advances,
     );
-    came(&buffer, to);
+    came(rt, &buffer, to);
 }
 
 // How a run stopped, and its advances.
-pub(crate) fn last_line(how: Outcome, advances: u64) {
+pub(crate) fn last_line(rt: &impl Print, how: Outcome, advances: u64) {
     match how {
-        Outcome::Refused(r) => error_line(r, advances),
+        Outcome::Refused(r) => error_line(rt, r, advances),
         Outcome::Ended => {
-            say(b"end advances ");
-            number(advances);
-            say(b"\n");
+            say(rt, b"end advances ");
+            number(rt, advances);
+            say(rt, b"\n");
         }
-        Outcome::Running => say(b"running\n"),
+        Outcome::Running => say(rt, b"running\n"),
     }
 }
 
 // A tokenizer's cursor and count.
-pub(crate) fn state(t: Tokenizer) {
-    say(b"cursor ");
-    number(t.at);
-    say(b" count ");
-    number(t.count);
-    say(b"\n");
+pub(crate) fn state(rt: &impl Print, t: Tokenizer) {
+    say(rt, b"cursor ");
+    number(rt, t.at);
+    say(rt, b" count ");
+    number(rt, t.count);
+    say(rt, b"\n");
 }

@@ -63,13 +63,13 @@ seek-same (At p n) (Nothing q m) e = let z : ◌≡◌ {A = ℕ} 0 1 = cc in abs
 seek-same (Nothing p n) (At q m) e = let z : ◌≡◌ {A = ℕ} 0 1 = cc in absurd (omega arith)
 seek-same (Nothing p n) (Nothing q m) e = let x : p ≡ q = cc in let y : n ≡ m = cc in rw (x, y)
 
-skip-same : (a b : Skip) → skip_numbers a ≡ skip_numbers b → a ≡ b
+pub skip-same : (a b : Skip) → skip_numbers a ≡ skip_numbers b → a ≡ b
 skip-same (Past p n) (Past q m) e = let x : p ≡ q = cc in let y : n ≡ m = cc in rw (x, y)
 skip-same (Past p n) (Lost r q m) e = let h : code_number r.code ≡ 0 = cc in absurd (code-some r.code h)
 skip-same (Lost r p n) (Past q m) e = let h : code_number r.code ≡ 0 = cc in absurd (code-some r.code h)
 skip-same (Lost r p n) (Lost t q m) e = let w : r ≡ t = refusal-same r t (cc) (cc) in let x : p ≡ q = cc in let y : n ≡ m = cc in rw (w, x, y)
 
-turn-same : (a b : Turn) → turn_numbers a ≡ turn_numbers b → a ≡ b
+pub turn-same : (a b : Turn) → turn_numbers a ≡ turn_numbers b → a ≡ b
 turn-same Stop Stop e = refl
 turn-same Stop (Fail r p n) e = cc
 turn-same Stop (Pass p n b) e = cc
@@ -80,7 +80,8 @@ turn-same (Pass p n b) Stop e = cc
 turn-same (Pass p n b) (Fail r q m) e = cc
 turn-same (Pass p n b) (Pass q m d) e = let x : p ≡ q = cc in let y : n ≡ m = cc in let z : b ≡ d = cc in rw (x, y, z)
 
--- ---- THE PROMISES IN NUMBERS, of every function that answers one of these: its contract r ≡ d is that of the numbers
+-- ---- THE PROMISES IN NUMBERS, of every function that answers one of these: its contract r ≡ d is that of the numbers. Those of `scan::Skip` and
+-- `scan::Turn` stand in proofs/Inner.antt.
 pub utf8_told : (r d : Utf8) → Tells utf8_numbers r d
 utf8_told r d = tells utf8_numbers utf8_same r d
 
@@ -89,12 +90,6 @@ sight-told r d = tells sight_numbers sight-same r d
 
 pub seek-told : (r d : Found) → Tells seek_numbers r d
 seek-told r d = tells seek_numbers seek-same r d
-
-pub skip-told : (r d : Skip) → Tells skip_numbers r d
-skip-told r d = tells skip_numbers skip-same r d
-
-pub turn-told : (r d : Turn) → Tells turn_numbers r d
-turn-told r d = tells turn_numbers turn-same r d
 
 -- a call's answer, of every reader of `words` and `tok`
 pub call-told : (r d : Call) → r ≡ d → what_numbers r.what ≡ what_numbers d.what

@@ -1,4 +1,5 @@
 -- Nothing is lost by the numbers: no two answers have the same.
+-- That of `escapes::Expanded` stands in proofs/Same.antt.
 use Rattle.std.specs.Prelude.{ℕ, List, [], ◌++◌, ◌≡◌, refl}
 use Rattle.std.proofs.Common.{arith, append-nil, sym, ap, ◌∙◌}
 use Rattle.record.specs.Numbers.{code_again, code_number, code_of, codes, kind_again, kind_number, kind_of}
@@ -20,8 +21,6 @@ use Rattle.reading.specs.declared.Outcome.{Outcome}
 use Rattle.reading.specs.declared.Outcome.TheVariants.{Ended, Refused, Running}
 use Rattle.reading.specs.declared.What.{What}
 use Rattle.reading.specs.declared.What.TheVariants.{End, Error, Got}
-use Rattle.escapes.specs.declared.Expanded.{Expanded}
-use Rattle.escapes.specs.declared.Expanded.TheVariants.{Part as APart, Refused as NotExpanded}
 use Rattle.escapes.specs.declared.Held.{Held}
 use Rattle.escapes.specs.declared.Held.TheVariants.{Buffer, Text}
 use Rattle.place.specs.declared.Located.{Located}
@@ -34,7 +33,7 @@ use Rattle.ltk.specs.declared.Found.{Found}
 use Rattle.ltk.specs.declared.Found.TheVariants.{Nothing, Record}
 use Rattle.sheet.specs.declared.Taken.{Taken}
 use Rattle.sheet.specs.declared.Taken.TheVariants.{Refused as NotTaken, Tallied, Whole}
-use Rattle.numbers.specs.Values.{answer_numbers, checked_numbers, chosen_numbers, expanded_numbers, found_numbers, held_number, known_numbers, located_numbers, outcome_numbers, reported_numbers, taken_numbers, token_numbers, told_numbers, what_numbers}
+use Rattle.numbers.specs.Values.{answer_numbers, checked_numbers, chosen_numbers, found_numbers, held_number, known_numbers, located_numbers, outcome_numbers, reported_numbers, taken_numbers, token_numbers, told_numbers, what_numbers}
 
 -- ---- codes, kinds, refusals and tokens
 pub code_same : (c d : Code) → code_number c ≡ code_number d → c ≡ d
@@ -68,12 +67,12 @@ token-same t u e =
     let c : t.end ≡ u.end = cc in
     let d : t.payload_start ≡ u.payload_start = cc in
     let f : t.payload_end ≡ u.payload_end = cc in
-    let r : told_numbers t.gap_depth_lem ++ told_numbers t.code_depth_lem ≡ told_numbers u.gap_depth_lem ++ told_numbers u.code_depth_lem = cc in
-    let g = told_same t.gap_depth_lem u.gap_depth_lem (told_numbers t.code_depth_lem) (told_numbers u.code_depth_lem) r in
-    let h = told_same t.code_depth_lem u.code_depth_lem [] [] (append-nil (told_numbers t.code_depth_lem) ∙ g.1 ∙ sym (append-nil (told_numbers u.code_depth_lem))) in
+    let r : told_numbers t.gap_depth ++ told_numbers t.code_depth ≡ told_numbers u.gap_depth ++ told_numbers u.code_depth = cc in
+    let g = told_same t.gap_depth u.gap_depth (told_numbers t.code_depth) (told_numbers u.code_depth) r in
+    let h = told_same t.code_depth u.code_depth [] [] (append-nil (told_numbers t.code_depth) ∙ g.1 ∙ sym (append-nil (told_numbers u.code_depth))) in
     rw (a, b, c, d, f, g.0, h.0)
 
-held_same : (a b : Held) → held_number a ≡ held_number b → a ≡ b
+pub held_same : (a b : Held) → held_number a ≡ held_number b → a ≡ b
 held_same Text Text e = refl
 held_same Buffer Buffer e = refl
 held_same Text Buffer e = absurd (omega arith)
@@ -123,16 +122,6 @@ chosen_same (AReading Kept) (AReading Old) e = let w : ◌≡◌ {A = ℕ} 0 1 =
 chosen_same (AReading rd) NotChosen e = cc
 chosen_same NotChosen (AReading rd) e = cc
 chosen_same NotChosen NotChosen e = refl
-
-pub expanded-same : (a b : Expanded) → expanded_numbers a ≡ expanded_numbers b → a ≡ b
-expanded-same (APart p) (APart q) e =
-    let h : p.held ≡ q.held = held_same p.held q.held (cc) in
-    let i : p.start ≡ q.start = cc in
-    let j : p.end ≡ q.end = cc in
-    ap APart (rw (h, i, j))
-expanded-same (APart p) (NotExpanded r) e = let h : code_number r.code ≡ 0 = cc in absurd (code-some r.code h)
-expanded-same (NotExpanded r) (APart p) e = let h : code_number r.code ≡ 0 = cc in absurd (code-some r.code h)
-expanded-same (NotExpanded q) (NotExpanded r) e = ap NotExpanded (refusal-same q r (cc) (cc))
 
 pub reported-same : (a b : Reported) → reported_numbers a ≡ reported_numbers b → a ≡ b
 reported-same (APlace p) (APlace q) e =

@@ -49,7 +49,7 @@ told_numbers NotTold = 0 ∷ 0 ∷ []
 
 -- a token by its "kind, start, end, payload start, payload end", and its two depths
 abbrev pub token_numbers : Token → List ℕ
-token_numbers t = numbers_of t ++ (told_numbers t.gap_depth_lem ++ told_numbers t.code_depth_lem)
+token_numbers t = numbers_of t ++ (told_numbers t.gap_depth ++ told_numbers t.code_depth)
 
 -- `reading::What`, a call's answer: a token, a refusal, or the end
 abbrev pub what_numbers : What → List ℕ

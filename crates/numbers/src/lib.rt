@@ -1,4 +1,6 @@
 // The numbers of every answer, and that nothing is lost by them: they stand in specs/. The code is what the functions for C programs share.
+#![tactic(auto)]
+
 ghost use Rattle.std.specs.Prelude.{◌≡◌};
 ghost use Rattle.numbers.specs.Values.{how_code, how_place};
 

@@ -6,8 +6,8 @@ use borrow.Author.Tests.{le-ltb}
 use Rattle.std.proofs.Math.Dec.{ltb}
 use Rattle.std.proofs.Math.ListN.{length}
 use Rattle.std.proofs.Math.Seq.{length-take-le}
-use Rattle.utf8.specs.Laws.{bad-within}
-use Rattle.utf8.specs.RoundTrip.{first_fault, only_scalars, read_back, written_valid}
+use Rattle.utf8.proofs.Laws.{bad-within}
+use Rattle.utf8.proofs.RoundTrip.{first_fault, only_scalars, read_back, written_valid}
 use Rattle.utf8.specs.Utf8.{chars, verdict}
 use Rattle.utf8.specs.declared.Utf8.TheVariants.{Bad, Valid}
 use Rattle.record.specs.Checks.{text_limit}

@@ -10,8 +10,9 @@ use Rattle.utf8.specs.Chars.{'carriage_return, 'newline}
 use Rattle.utf8.specs.declared.Sight.{Sight}
 use Rattle.utf8.specs.declared.Sight.TheVariants.{Char, End}
 use Rattle.utf8.specs.Encode.{encode}
-use Rattle.utf8.specs.Forms.{Form, form}
-use Rattle.utf8.specs.Laws.{Whole, Seen, ended, reach-end, seen, sight_ascii, whole-step}
+use Rattle.utf8.proofs.Forms.{Form, form}
+use Rattle.utf8.proofs.Laws.{seen}
+use Rattle.utf8.specs.Laws.{Whole, Seen, ended, reach-end, sight_ascii, whole-step}
 use Rattle.utf8.specs.Picks.{picks, tests}
 use Rattle.utf8.specs.Utf8.{chars, sight_at, width_of}
 use Rattle.place.specs.Ends.{ends_by}

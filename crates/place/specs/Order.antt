@@ -1,7 +1,8 @@
 -- Over characters: line and column never fall as more characters stand before the place, and both are small.
 use Rattle.std.specs.Prelude.{ℕ, zero, suc, ◌+◌, ◌-◌, ◌≤◌, ◌<◌, ◌≡◌, refl, Bool, true, false, cond, List, [], ◌∷◌, ltb, length}
 use Rattle.std.proofs.Common.{sym, ap, arith, le-ltb, lt-ltb}
-use Rattle.utf8.specs.Laws.{bad_place, valid_whole}
+use Rattle.utf8.proofs.Laws.{bad_place}
+use Rattle.utf8.specs.Laws.{valid_whole}
 use Rattle.utf8.specs.Picks.{by_test, tests}
 use Rattle.utf8.specs.Utf8.{chars, reach, verdict, width_of}
 use Rattle.utf8.specs.declared.Utf8.{Utf8}
@@ -99,7 +100,7 @@ unfolding units_since reach
 units_few u zero cs at h = omega (arith, reach_least cs at)
 units_few u (suc n) [] at h = h
 units_few u (suc n) (c ∷ cs) at h =
-    units_few _ n cs (at + width_of c)
+    units_few (cond (ends c cs) 0 (u + units c)) n cs (at + width_of c)
     (by_test (λ (k : ℕ). k ≤ at + width_of c) (ends c cs) 0 (u + units c) (λ e. omega arith) (λ e. omega (arith, wide c)))
 
 -- the characters' bytes are the text's

@@ -8,7 +8,8 @@ use native.Mathlib.Omega.{arith}
 use borrow.Author.Tests.{eqb-true, lt-ltb, ne_eqb}
 use Rattle.std.proofs.Math.ListN.{get_or}
 use Rattle.utf8.specs.Chars.{'carriage_return}
-use Rattle.utf8.specs.Laws.{Seen, Whole, boundary-whole, ended, inside, reach-end, seen, valid_whole, whole-step}
+use Rattle.utf8.proofs.Laws.{boundary-whole, inside, seen}
+use Rattle.utf8.specs.Laws.{Seen, Whole, ended, reach-end, valid_whole, whole-step}
 use Rattle.utf8.specs.Picks.{tests}
 use Rattle.utf8.specs.Utf8.{boundary, chars, sight_at, verdict, width_of}
 use Rattle.utf8.specs.declared.Sight.{Sight}

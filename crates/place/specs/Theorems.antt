@@ -7,7 +7,8 @@ use borrow.Author.Tests.{eqb-true, le-ltb}
 use Rattle.std.proofs.Math.Dec.{eqb}
 use Rattle.std.proofs.Math.ListN.{length, get_or}
 use Rattle.utf8.specs.Chars.{'carriage_return, 'newline}
-use Rattle.utf8.specs.Laws.{Seen, bounded, seen, valid_whole}
+use Rattle.utf8.proofs.Laws.{bounded, seen}
+use Rattle.utf8.specs.Laws.{Seen, valid_whole}
 use Rattle.utf8.specs.Picks.{tests}
 use Rattle.utf8.specs.Utf8.{boundary, chars, reach, sight_at, verdict}
 use Rattle.utf8.specs.declared.Sight.TheVariants.{Char}

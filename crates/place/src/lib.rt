@@ -1,4 +1,6 @@
 // Where a place stands in a text, by line and column as editors count them, and back. Lines and columns are known here alone.
+#![tactic(auto)]
+
 ghost use Rattle.std.specs.Prelude.{◌≡◌, ◌&&◌, ltb, ℕ, ◌+◌, ◌≤◌, ◌<◌, length, drop};
 ghost use Rattle.utf8.specs.Laws.{Whole};
 ghost use Rattle.utf8.specs.Utf8.{chars, verdict};
@@ -10,21 +12,21 @@ use record::{Checked, Refusal};
 use utf8::Utf8;
 
 // A line and a column, both counted from 0; the column in UTF-16 units.
-#[derive(Drop)]
+#[derive(Clone, Copy)]
 pub struct Place {
     pub line: u64,
     pub column: u64,
 }
 
 // What the reporter answers.
-#[derive(Drop)]
+#[derive(Clone, Copy)]
 pub enum Reported {
     At(Place),
     Refused(Refusal),
 }
 
 // The way back.
-#[derive(Drop)]
+#[derive(Clone, Copy)]
 pub enum Located {
     At(u64),
     Refused(Refusal),

@@ -1,30 +1,30 @@
 // What this program prints with.
-use libc::STDOUT_FILENO;
 use record::Refusal;
 use text::Came;
 
-pub(crate) fn say(words: &[u8]) {
-    io::write_all(STDOUT_FILENO, words);
+// What cannot be written is let go.
+pub(crate) fn say(rt: &impl Print, words: &[u8]) {
+    let _ = rt.write_all(words);
 }
 
-pub(crate) fn number(n: u64) {
-    io::print_decimal(STDOUT_FILENO, n);
+pub(crate) fn number(rt: &impl Print, n: u64) {
+    let _ = print!(rt; "{n}");
 }
 
 // The bytes of a buffer up to where they came.
-fn came(buffer: &[u8], to: Came) {
+fn came(rt: &impl Print, buffer: &[u8], to: Came) {
     match to {
         Came::To(n) => {
             if n <= buffer.len() {
-                say(&buffer[..n]);
+                say(rt, &buffer[..n]);
             }
         }
-        Came::Full => say(b"does not fit"),
+        Came::Full => say(rt, b"does not fit"),
     }
 }
 
 // `error NAME at P`
-pub(crate) fn refusal(r: Refusal) {
+pub(crate) fn refusal(rt: &impl Print, r: Refusal) {
     let c = r.code;
     let mut buffer = [0u8; 128];
     let to = text::refusal_line(
@@ -33,5 +33,5 @@ pub(crate) fn refusal(r: Refusal) {
         record::code_number(c) as u64,
         r.place,
     );
-    came(&buffer, to);
+    came(rt, &buffer, to);
 }

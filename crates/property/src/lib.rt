@@ -1,2 +1,4 @@
 // The lines of Unicode's files: which code points a line gives which property.
+#![tactic(auto)]
+
 pub mod line;

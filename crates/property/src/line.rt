@@ -3,14 +3,14 @@ ghost use Rattle.std.specs.Prelude.{◌≡◌, ◌+◌, drop};
 ghost use Rattle.property.specs.Hex.{digit_of, hex_of};
 ghost use Rattle.property.specs.Lines.{passes, front, starts_with, known_of, named_of, last_of, range_of, line_of, line_at};
 
-#[derive(Drop)]
+#[derive(Clone, Copy)]
 pub enum Property {
     Start,
     Continue,
     White,
 }
 
-#[derive(Drop)]
+#[derive(Clone, Copy)]
 pub enum Line {
     // Empty, or a comment.
     Nothing,
@@ -23,14 +23,14 @@ pub enum Line {
 }
 
 // The line that starts at a place, and the place of the next.
-#[derive(Drop)]
+#[derive(Clone, Copy)]
 pub struct Read {
     pub line: Line,
     pub next: usize,
 }
 
 // A number, and how many digits it was read from.
-#[derive(Drop)]
+#[derive(Clone, Copy)]
 struct Hex {
     value: u32,
     digits: usize,

@@ -71,7 +71,7 @@ dropped Kept cs = 0
 
 -- the attribute from o to p; the characters cs stand at p
 unfoldable pub attribute_token : Reading → ℕ → List ℕ → ℕ → Call
-attribute_token rd o cs p = record { what = Got (token_of ShebangAttribute o p o p); at = after (dropped rd cs) cs p; advances = dropped rd cs; gap_depth_lem = 0; code_depth_lem = 0 }
+attribute_token rd o cs p = record { what = Got (token_of ShebangAttribute o p o p); at = after (dropped rd cs) cs p; advances = dropped rd cs; gap_depth = 0; code_depth = 0 }
 
 -- 01: "if it fails, the cursor returns to just after `#`, `Hash` is delivered, and the attempt's advances stay counted"; "Codes of a failed
 -- attempt, 7 too, never show": an attempt carries none. After a hash at o

@@ -1,18 +1,16 @@
--- Whatever the gap's reader passes is blank.
-use Prim.Native.Nat.{◌+◌, ◌-◌, ◌<◌, ◌≤◌, suc, zero, ℕ}
+-- Whatever the gap's reader passes is blank: its comments. The gap itself is in proofs/Blanks.antt.
+use Prim.Native.Nat.{◌+◌, ◌-◌, ◌<◌, suc, zero, ℕ}
 use Rattle.std.proofs.Common.{arith, take-append-drop, drop-drop, take-add, eqb-true, ltb-false, ltb-true}
-use Rattle.std.specs.Prelude.{Bool, cond, false, true, List, [], ◌++◌, ◌∷◌, eqb, ltb, drop, length, take}
+use Rattle.std.specs.Prelude.{Bool, cond, false, true, List, [], ◌++◌, ◌∷◌, eqb, ltb, drop, take}
 use Rattle.std.proofs.Math.Path.{◌≡◌, refl}
 use Rattle.utf8.specs.Utf8.{width_of}
-use Rattle.unicode_xid.specs.Whitespace.{is_whitespace}
 use Rattle.record.specs.declared.Code.TheVariants.{UnterminatedBlockComment}
-use Rattle.scan.specs.Far.{Far, until-before}
+use Rattle.scan.specs.Far.{until-before}
 use Rattle.scan.specs.IfNext.{if_next}
-use Rattle.scan.specs.Passes.{Good}
 use Rattle.scan.specs.Readers.{com_done, com_step, comment_end, depth_of}
 use Rattle.scan.specs.Seek.{line_skip, seek_done, seek_step, skip_more, through, up_to}
 use Rattle.scan.specs.Until.{until}
-use Rattle.scan.specs.Walk.{turn_of, walk_from}
+use Rattle.scan.specs.Walk.{turn_of}
 use Rattle.scan.specs.declared.Com.{Com}
 use Rattle.scan.specs.declared.Com.TheVariants.{Complete, Open, Slash, Star}
 use Rattle.scan.specs.declared.Found.{Found}
@@ -22,9 +20,8 @@ use Rattle.scan.specs.declared.Skip.TheVariants.{Lost, Past}
 use Rattle.scan.specs.declared.Sought.TheVariants.{Newline}
 use Rattle.scan.specs.declared.Turn.{Turn}
 use Rattle.scan.specs.declared.Turn.TheVariants.{Fail, Pass, Stop}
-use Rattle.reading.specs.Blank.{Blank, Comment, block, closes, ends, is_mark, line, line_over, nothing, one_line, opens, passes, white}
-use Rattle.reading.specs.Gaps.{comment_turn, gap, gap_last, gap_turn}
-use Rattle.reading.specs.Passes.{gap_good}
+use Rattle.reading.specs.Blank.{Blank, Comment, block, closes, ends, is_mark, line, line_over, nothing, one_line, opens, passes}
+use Rattle.reading.specs.Gaps.{comment_turn}
 
 -- ---- a nested comment: what the reader's state has still to read, its own last character included where it may start a mark
 abbrev Rest : Com → List ℕ → Type 0
@@ -180,8 +177,8 @@ CoversIn c cs Stop = Unit {0}
 CoversIn c cs (Fail r p m) = Unit {0}
 CoversIn c cs (Pass p m b) = (xs rest : List ℕ) → drop m cs ≡ xs ++ rest → Blank rest xs → Blank rest (c ∷ take m cs ++ xs)
 
-record Covers (c : ℕ) (cs : List ℕ) (x : Turn) : Type 0 where
-  is : CoversIn c cs x
+pub record Covers (c : ℕ) (cs : List ℕ) (x : Turn) : Type 0 where
+  pub is : CoversIn c cs x
 
 module _ (cs : List ℕ) (at : ℕ) where
   -- the second slash is no newline
@@ -206,14 +203,14 @@ module _ (cs : List ℕ) (at : ℕ) where
   }
   block_covers o (Nothing p m) e = record { is = tt }
 
-covers-test : (c : ℕ) (cs : List ℕ) (t : Bool) (x y : Turn) → (t ≡ true → Covers c cs x) → (t ≡ false → Covers c cs y) → Covers c cs (cond t x y)
+pub covers-test : (c : ℕ) (cs : List ℕ) (t : Bool) (x y : Turn) → (t ≡ true → Covers c cs x) → (t ≡ false → Covers c cs y) → Covers c cs (cond t x y)
 covers-test c cs true x y p q = p refl
 covers-test c cs false x y p q = q refl
 
-covers-stop : (c : ℕ) (cs : List ℕ) → Covers c cs Stop
+pub covers-stop : (c : ℕ) (cs : List ℕ) → Covers c cs Stop
 covers-stop c cs = record { is = tt }
 
-comment_covers : (o : ℕ) (cs : List ℕ) (at : ℕ) → Covers 47 cs (comment_turn o cs at)
+pub comment_covers : (o : ℕ) (cs : List ℕ) (at : ℕ) → Covers 47 cs (comment_turn o cs at)
 unfolding comment_turn
 comment_covers o [] at = covers-stop 47 []
 comment_covers o (c ∷ cs) at =
@@ -221,57 +218,16 @@ comment_covers o (c ∷ cs) at =
     (λ _. covers-test 47 (c ∷ cs) (eqb c 42) _ _ (λ q. rw (eqb-true c 42 q) (block_covers cs (at + width_of 42) o (comment_end cs (at + width_of 42)) refl))
     (λ _. covers-stop 47 (c ∷ cs)))
 
-turn-covers : (b c : ℕ) (cs : List ℕ) (at next : ℕ) → Covers c cs (gap_turn b c cs at next)
-unfolding gap_turn
-turn-covers b c cs at next =
-    covers-test c cs (eqb c 47) _ _ (λ q. rw (eqb-true c 47 q) (comment_covers at cs next))
-    (λ _. covers-test c cs (is_whitespace c) _ _ (λ q. record { is = λ xs rest d h. white {xs = xs} c q h }) (λ _. covers-stop c cs))
-
 -- ---- the gap: k characters passed unseen, and then j that are blank
-record Passed (k n m : ℕ) (cs : List ℕ) : Type 0 where
-  by : ℕ
-  counted : m ≡ n + k + by
-  blank : Blank (drop by (drop k cs)) (take by (drop k cs))
+pub record Passed (k n m : ℕ) (cs : List ℕ) : Type 0 where
+  pub by : ℕ
+  pub counted : m ≡ n + k + by
+  pub blank : Blank (drop by (drop k cs)) (take by (drop k cs))
 
-passed_none : (m n : ℕ) (cs : List ℕ) → n ≡ m → Passed 0 n m cs
+pub passed_none : (m n : ℕ) (cs : List ℕ) → n ≡ m → Passed 0 n m cs
 passed_none m n cs e = record { by = 0; counted = omega arith; blank = nothing }
 
-cover_then : (c : ℕ) (cs : List ℕ) (p m b j : ℕ) → CoversIn c cs (Pass p m b) → Blank (drop j (drop m cs)) (take j (drop m cs))
+pub cover_then : (c : ℕ) (cs : List ℕ) (p m b j : ℕ) → CoversIn c cs (Pass p m b) → Blank (drop j (drop m cs)) (take j (drop m cs))
     → Blank (drop (m + j) cs) (c ∷ take (m + j) cs)
 cover_then c cs p m b j f h =
     rw (take-add m j cs, ← (drop-drop j m cs)) (f (take j (drop m cs)) (drop j (drop m cs)) (rw (take-append-drop j (drop m cs))) h)
-
-walk-blank : (p m k : ℕ) (cs : List ℕ) (b at n : ℕ) → k ≤ length cs → walk_from gap_turn gap_last k cs b at n ≡ Past p m → Passed k n m cs
-unfolding walk_from
-walk-blank p m zero [] b at n l e = passed_none m n [] cc
-walk-blank p m (suc k) [] b at n l e = absurd (omega arith)
-walk-blank p m (suc k) (c ∷ cs) b at n l e =
-    let h = walk-blank p m k cs b (at + width_of c) (n + 1) (omega arith) e in
-    let y = h.counted in
-    record { by = h.by; counted = omega arith; blank = h.blank }
-walk-blank p m zero (c ∷ cs) b at n l e =
-    go (gap_turn b c cs at (at + width_of c)) refl (gap_good b c cs at (at + width_of c)) (turn-covers b c cs at (at + width_of c))
-    (λ j b'. walk-blank p m j cs b' (at + width_of c) (n + 1))
-  where
-    go : (t : Turn) → gap_turn b c cs at (at + width_of c) ≡ t → Good cs (at + width_of c) (gap_turn b c cs at (at + width_of c)) → Covers c cs (gap_turn b c cs at (at + width_of c))
-        → ((j b' : ℕ) → j ≤ length cs → walk_from gap_turn gap_last j cs b' (at + width_of c) (n + 1) ≡ Past p m → Passed j (n + 1) m cs) → Passed 0 n m (c ∷ cs)
-    go Stop q g v f =
-        let u : Past at n ≡ Past p m = rw (q, walk_from) at e in
-        passed_none m n (c ∷ cs) cc
-    go (Fail r x i) q g v f =
-        let u : Lost r x (n + 1 + i) ≡ Past p m = rw (q, walk_from) at e in
-        let w : ◌≡◌ {A = ℕ} 0 1 = cc in
-        absurd (omega arith)
-    go (Pass x i b') q g v f =
-        let far : Far cs (at + width_of c) i x = (rw q at g).is in
-        let h = f i b' far.within (rw (q, walk_from) at e) in
-        let y = h.counted in
-        record { by = suc (i + h.by); counted = omega arith; blank = cover_then c cs x i b' h.by (rw q at v).is h.blank }
-
-pub gap-blank : (cs : List ℕ) (at p m : ℕ) → gap cs at ≡ Past p m → Blank (drop m cs) (take m cs)
-unfolding gap
-gap-blank cs at p m e =
-    let h = walk-blank p m 0 cs 0 at 0 (omega arith) e in
-    let y = h.counted in
-    let z : h.by ≡ m = omega arith in
-    rw z at h.blank

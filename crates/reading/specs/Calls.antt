@@ -1,4 +1,5 @@
--- Of every call: the advances are the characters passed, but for a failed attempt; a token stands from its start to its end.
+-- Of every call: the advances are the characters passed, but for a failed attempt; a token stands from its start to its end. What takes
+-- keywords, lifetimes or code is in proofs/Calls.antt.
 use Rattle.std.specs.Prelude.{◌+◌, ◌-◌, ◌<◌, ℕ, Bool, cond, ◌≡◌, drop}
 use native.Mathlib.Omega.{arith}
 use Rattle.std.proofs.Math.Bool.{false, true}
@@ -7,30 +8,24 @@ use Rattle.std.proofs.Common.{◌∙◌, eqb-true}
 use Rattle.std.proofs.Math.Path.{ap, refl}
 use Rattle.std.proofs.Math.Dec.{eqb}
 use Rattle.utf8.specs.Utf8.{width_of}
-use Rattle.unicode_xid.specs.Identifier.{is_identifier_start}
 use Rattle.record.specs.declared.Code.{Code}
 use Rattle.record.specs.declared.Code.TheVariants.{UnterminatedCharacterLiteral, UnterminatedEscape, UnterminatedStringLiteral}
 use Rattle.record.specs.declared.Kind.{Kind}
-use Rattle.record.specs.declared.Kind.TheVariants.{Bang, BangEquals, BangTilde, CharLiteral, Colon, ColonColon, DotDot, Equals, EqualsEquals, EqualsGreaterThanCode, EqualsGreaterThanLookahead, EqualsGreaterThanLookbehind, EqualsGreaterThanQuestionCode, Escape, Id, Lifetime, Lookahead, Lookbehind, MacroId, MinusGreaterThan, RegexLiteral, StringLiteral, TildeTilde, Underscore, Use}
-use Rattle.record.specs.declared.Reading.{Reading}
+use Rattle.record.specs.declared.Kind.TheVariants.{Bang, BangEquals, BangTilde, CharLiteral, Colon, ColonColon, DotDot, EqualsGreaterThanLookahead, EqualsGreaterThanLookbehind, Escape, Id, Lookahead, Lookbehind, MacroId, MinusGreaterThan, RegexLiteral, StringLiteral, TildeTilde}
 use Rattle.scan.specs.Far.{Far, far_none, one_far, one_more, then}
 use Rattle.scan.specs.IfNext.{if_next}
-use Rattle.scan.specs.Passes.{Sound, backtick_past, regex_none, regex_past, seek-at, seek-none, string_none, string_past}
+use Rattle.scan.specs.Passes.{backtick_past, regex_none, regex_past, seek-none, string_none, string_past}
 use Rattle.scan.specs.Readers.{regex_end, string_end}
 use Rattle.scan.specs.Seek.{seek}
 use Rattle.scan.specs.declared.Found.{Found}
 use Rattle.scan.specs.declared.Found.TheVariants.{At, Nothing}
-use Rattle.scan.specs.declared.Skip.{Skip}
-use Rattle.scan.specs.declared.Skip.TheVariants.{Lost, Past}
-use Rattle.scan.specs.declared.Sought.TheVariants.{Backtick, Hashes, Word}
-use Rattle.code.specs.Laws.{code_sound}
+use Rattle.scan.specs.declared.Sought.TheVariants.{Backtick}
 use Rattle.reading.specs.Answers.{deliver, more, plain, refuse}
 use Rattle.reading.specs.Measures.{is_attribute}
-use Rattle.reading.specs.Next.{starts}
-use Rattle.reading.specs.Quotes.{char_literal, escape, lifetime_by, lifetimeish, string_or_char_literal, string_literal}
-use Rattle.reading.specs.Regex.{hashed, r_word, regex_by, regex_literal, regex_literal_by, regex_token}
-use Rattle.reading.specs.Symbols.{arrow_code, arrow_look, bang, colon, dot, equals, half, look, minus, right_arrow, single, singles, stray, tilde}
-use Rattle.reading.specs.Words.{code_token, id_token, identifier_by, identifierish, keyword_token, keywords, spells, use_token, word_token}
+use Rattle.reading.specs.Quotes.{char_literal, escape, string_or_char_literal, string_literal}
+use Rattle.reading.specs.Regex.{regex_by, regex_token}
+use Rattle.reading.specs.Symbols.{arrow_look, bang, colon, dot, half, look, minus, single, singles, stray, tilde}
+use Rattle.reading.specs.Words.{id_token, keywords}
 use Rattle.reading.specs.declared.Call.{Call}
 use Rattle.reading.specs.declared.What.{What}
 use Rattle.reading.specs.declared.What.TheVariants.{End, Error, Got}
@@ -47,16 +42,16 @@ pub record Fair (o : ℕ) (cs : List ℕ) (at : ℕ) (x : Call) : Type 0 where
   pub span : SpanIn o x.at x.what
 
 module _ (o : ℕ) (cs : List ℕ) (at : ℕ) where
-  fair_test : (t : Bool) (x y : Call) → Fair o cs at x → Fair o cs at y → Fair o cs at (cond t x y)
+  pub fair_test : (t : Bool) (x y : Call) → Fair o cs at x → Fair o cs at y → Fair o cs at (cond t x y)
   fair_test true x y p q = p
   fair_test false x y p q = q
 
-  fair_next : (k : ℕ) (l : List ℕ) (x y : Call) → Fair o cs at x → Fair o cs at y → Fair o cs at (if_next k l x y)
+  pub fair_next : (k : ℕ) (l : List ℕ) (x y : Call) → Fair o cs at x → Fair o cs at y → Fair o cs at (if_next k l x y)
   unfolding if_next
   fair_next k [] x y p q = q
   fair_next k (c ∷ l) x y p q = fair_test (eqb c k) x y p q
 
-  fair_deliver : (kind : Kind) (from to p n : ℕ) → is_attribute kind ≡ false → Far cs at n p → Fair o cs at (deliver kind o from to p n)
+  pub fair_deliver : (kind : Kind) (from to p n : ℕ) → is_attribute kind ≡ false → Far cs at n p → Fair o cs at (deliver kind o from to p n)
   unfolding deliver
   fair_deliver kind from to p n e f = record { far = f; span = (refl, refl, e) }
 
@@ -64,19 +59,19 @@ module _ (o : ℕ) (cs : List ℕ) (at : ℕ) where
   unfolding plain
   fair_plain kind p n e f = fair_deliver kind o o p n e f
 
-  fair_refuse : (code : Code) (place p n : ℕ) → Far cs at n p → Fair o cs at (refuse code place p n)
+  pub fair_refuse : (code : Code) (place p n : ℕ) → Far cs at n p → Fair o cs at (refuse code place p n)
   unfolding refuse
   fair_refuse code place p n f = record { far = f; span = tt }
 
-  fair_more : (m p : ℕ) (x : Call) → Far cs at m p → Fair o (drop m cs) p x → Fair o cs at (more m x)
+  pub fair_more : (m p : ℕ) (x : Call) → Far cs at m p → Fair o (drop m cs) p x → Fair o cs at (more m x)
   unfolding more
   fair_more m p x f h = record { far = then m cs at p x.advances x.at f h.far; span = h.span }
 
-  fair_one : (c : ℕ) (x : Call) → Fair o cs (at + width_of c) x → Fair o (c ∷ cs) at (more 1 x)
+  pub fair_one : (c : ℕ) (x : Call) → Fair o cs (at + width_of c) x → Fair o (c ∷ cs) at (more 1 x)
   unfolding more
   fair_one c x h = record { far = one_more c cs at x.advances x.at h.far; span = h.span }
 
-  fair_here : (kind : Kind) → is_attribute kind ≡ false → Fair o cs at (plain kind o at 0)
+  pub fair_here : (kind : Kind) → is_attribute kind ≡ false → Fair o cs at (plain kind o at 0)
   fair_here kind e = fair_plain kind at 0 e (far_none cs at)
 
   pub fair_half : Fair o cs at (half o at)
@@ -84,7 +79,7 @@ module _ (o : ℕ) (cs : List ℕ) (at : ℕ) where
   fair_half = fair_refuse _ o at 0 (far_none cs at)
 
 -- a second character, which is one byte wide
-fair_mark : (o k : ℕ) (kind : Kind) (cs : List ℕ) (at : ℕ) (y : Call) → width_of k ≡ 1 → is_attribute kind ≡ false → Fair o cs at y
+pub fair_mark : (o k : ℕ) (kind : Kind) (cs : List ℕ) (at : ℕ) (y : Call) → width_of k ≡ 1 → is_attribute kind ≡ false → Fair o cs at y
     → Fair o cs at (if_next k cs (plain kind o (at + 1) 1) y)
 unfolding if_next
 fair_mark o k kind [] at y w e h = h
@@ -145,13 +140,13 @@ module _ (o : ℕ) (cs : List ℕ) (at : ℕ) where
   string_fair =
       quoted_fair StringLiteral UnterminatedStringLiteral (string_end 34 cs at) refl (λ p m. string_past cs at p m 34 refl) (λ p m. string_none cs at p m 34)
 
-  char_fair : Fair o cs at (char_literal o cs at)
+  pub char_fair : Fair o cs at (char_literal o cs at)
   unfolding char_literal width_of
   char_fair =
       quoted_fair CharLiteral UnterminatedCharacterLiteral (string_end 39 cs at) refl (λ p m. string_past cs at p m 39 refl) (λ p m. string_none cs at p m 39)
 
 -- after m characters that lead to p: a quote
-quote_after : (o from : ℕ) (m : ℕ) (cs : List ℕ) (at p : ℕ) (y : Call) → Far cs at m p → Fair o cs at y
+pub quote_after : (o from : ℕ) (m : ℕ) (cs : List ℕ) (at p : ℕ) (y : Call) → Far cs at m p → Fair o cs at y
     → Fair o cs at (if_next 39 (drop m cs) (deliver CharLiteral o from p (p + 1) (m + 1)) y)
 unfolding if_next width_of
 quote_after o from m cs at p y f h = go (drop m cs) refl
@@ -167,37 +162,17 @@ quote_after o from m cs at p y f h = go (drop m cs) refl
     go [] e = h
     go (c ∷ l) e = at_quote c l e (eqb c 39) refl
 
-lifetime_fair : (o : ℕ) (cs : List ℕ) (at : ℕ) → Fair o cs at (lifetime_by o cs at (seek Word cs at))
-lifetime_fair o cs at = go (seek Word cs at) refl
-  where
-    go : (f : Found) → seek Word cs at ≡ f → Fair o cs at (lifetime_by o cs at f)
-    go (At p m) e =
-        let f = seek-at cs at p m Word e in
-        quote_after o at m cs at p _ f (fair_deliver o cs at Lifetime o p p m refl f)
-    go (Nothing p m) e = fair_deliver o cs at Lifetime o p p m refl (seek-none cs at p m Word e)
-
-pub lifetimeish_fair : (o : ℕ) (cs : List ℕ) (at : ℕ) → Fair o cs at (lifetimeish o cs at)
-unfolding lifetimeish
-lifetimeish_fair o [] at = fair_refuse o [] at _ o at 0 (far_none [] at)
-lifetimeish_fair o (c ∷ cs) at = fair_test o (c ∷ cs) at (is_identifier_start c) _ _ (lifetime_fair o (c ∷ cs) at) (char_fair o (c ∷ cs) at)
-
 -- words
-id_fair : (o : ℕ) (cs : List ℕ) (at : ℕ) → Fair o cs at (id_token o cs at)
+pub id_fair : (o : ℕ) (cs : List ℕ) (at : ℕ) → Fair o cs at (id_token o cs at)
 unfolding id_token
 id_fair o cs at =
     fair_next o cs at 60 cs _ _ (fair_deliver o cs at MacroId o at at 0 refl (far_none cs at)) (fair_deliver o cs at Id o at at 0 refl (far_none cs at))
 
-abbrev AllPlain : {A : Type 0} → List (A × Kind) → Type 0
+abbrev pub AllPlain : {A : Type 0} → List (A × Kind) → Type 0
 AllPlain [] = Unit {0}
 AllPlain (k ∷ ks) = (is_attribute k.1 ≡ false) × AllPlain ks
 
-keyword_fair : (ks : List (List ℕ × Kind)) → AllPlain ks → (w : List ℕ) (o : ℕ) (cs : List ℕ) (at : ℕ) → Fair o cs at (keyword_token ks w o cs at)
-unfolding keyword_token
-keyword_fair [] a w o cs at = id_fair o cs at
-keyword_fair (k ∷ ks) a w o cs at =
-    fair_test o cs at (spells k.0 w o at) _ _ (fair_here o cs at k.1 a.0) (keyword_fair ks a.1 w o cs at)
-
-all_keywords : AllPlain keywords
+pub all_keywords : AllPlain keywords
 unfolding keywords
 all_keywords = (refl, (refl, (refl, (refl, (refl, (refl, (refl, (refl, (refl, (refl, (refl, (refl, (refl, tt)))))))))))))
 
@@ -221,7 +196,7 @@ pub record Taken (o : ℕ) (cs : List ℕ) (x : Call) : Type 0 where
   pub moves : MovesIn x.advances x.what
 
 module _ (c o : ℕ) (cs : List ℕ) where
-  taken-test : (t : Bool) (x y : Call) → Taken o (c ∷ cs) x → Taken o (c ∷ cs) y → Taken o (c ∷ cs) (cond t x y)
+  pub taken-test : (t : Bool) (x y : Call) → Taken o (c ∷ cs) x → Taken o (c ∷ cs) y → Taken o (c ∷ cs) (cond t x y)
   taken-test true x y p q = p
   taken-test false x y p q = q
 
@@ -230,11 +205,11 @@ module _ (c o : ℕ) (cs : List ℕ) where
   moves-one n (Error r) = tt
   moves-one n End = tt
 
-  taken-one : (x : Call) → Fair o cs (o + width_of c) x → Taken o (c ∷ cs) (more 1 x)
+  pub taken-one : (x : Call) → Fair o cs (o + width_of c) x → Taken o (c ∷ cs) (more 1 x)
   unfolding more
   taken-one x h = record { fair = fair_one o cs o c x h; moves = moves-one x.advances x.what }
 
-  taken-stray : Taken o (c ∷ cs) (stray o)
+  pub taken-stray : Taken o (c ∷ cs) (stray o)
   unfolding stray refuse
   taken-stray = record { fair = fair_refuse o (c ∷ cs) o _ o o 0 (far_none (c ∷ cs) o); moves = tt }
 
@@ -242,99 +217,11 @@ module _ (c o : ℕ) (cs : List ℕ) where
   unfolding plain deliver
   taken-plain kind e = record { fair = fair_plain o (c ∷ cs) o kind (o + width_of c) 1 e (one_far c cs o); moves = omega arith }
 
-  taken-single : (ks : List (ℕ × Kind)) → AllPlain ks → (x : Call) → Taken o (c ∷ cs) x → Taken o (c ∷ cs) (single ks c o (o + width_of c) x)
+  pub taken-single : (ks : List (ℕ × Kind)) → AllPlain ks → (x : Call) → Taken o (c ∷ cs) x → Taken o (c ∷ cs) (single ks c o (o + width_of c) x)
   unfolding single
   taken-single [] a x h = h
   taken-single (k ∷ ks) a x h = taken-test (eqb c k.0) _ _ (taken-plain k.1 a.0) (taken-single ks a.1 x h)
 
-all_singles : AllPlain singles
+pub all_singles : AllPlain singles
 unfolding singles
 all_singles = (refl, (refl, (refl, (refl, (refl, (refl, (refl, (refl, (refl, (refl, (refl, (refl, (refl, (refl, tt))))))))))))))
-
--- in every reading
-module _ (rd : Reading) where
-  -- code
-  module _ (o : ℕ) (cs : List ℕ) (at : ℕ) where
-    code-token_fair : (kind : Kind) (from : ℕ) (x : Skip) (d : ℕ) → is_attribute kind ≡ false → Sound cs at x → Fair o cs at (code_token kind o from x d)
-    code-token_fair kind from (Past p m) d e h = let f = fair_deliver o cs at kind from p p m e h.is in record { far = f.far; span = f.span }
-    code-token_fair kind from (Lost r p m) d e h = record { far = h.is; span = tt }
-
-    pub arrow_code_fair : (kind : Kind) → is_attribute kind ≡ false → Fair o cs at (arrow_code rd kind o cs at)
-    unfolding arrow_code
-    arrow_code_fair kind e = code-token_fair kind at _ _ e (code_sound rd o cs at)
-
-    use_fair : Fair o cs at (use_token rd o cs at)
-    unfolding use_token
-    use_fair = code-token_fair Use at _ _ refl (code_sound rd o cs at)
-
-  pub arrow_fair : (o : ℕ) (cs : List ℕ) (at : ℕ) → Fair o cs at (right_arrow rd o cs at)
-  unfolding right_arrow
-  arrow_fair o [] at = fair_refuse o [] at _ o at 0 (far_none [] at)
-  arrow_fair o (c ∷ cs) at =
-      let u = fair_one o cs at c _ (arrow_look_fair o cs (at + width_of c)) in
-      let v = fair_one o cs at c _ (arrow_code_fair o cs (at + width_of c) EqualsGreaterThanQuestionCode refl) in
-      let w = arrow_code_fair o (c ∷ cs) at EqualsGreaterThanCode refl in
-      search fair_test
-
-  equals_2 : (o : ℕ) (cs : List ℕ) (at : ℕ) (y : Call) → Fair o cs at y → Fair o cs at (if_next 62 cs (more 1 (right_arrow rd o (drop 1 cs) (at + 1))) y)
-  unfolding if_next width_of
-  equals_2 o [] at y h = h
-  equals_2 o (c ∷ cs) at y h = go (eqb c 62) refl
-    where
-      go : (t : Bool) → eqb c 62 ≡ t → Fair o (c ∷ cs) at (cond (eqb c 62) (more 1 (right_arrow rd o cs (at + 1))) y)
-      go true q =
-          let v : at + width_of c ≡ at + 1 = ap (λ (j : ℕ). at + width_of j) (eqb-true c 62 q) in
-          rw q (fair_one o cs at c _ (rw v (arrow_fair o cs (at + 1))))
-      go false q = rw q h
-
-  pub equals_fair : (o : ℕ) (cs : List ℕ) (at : ℕ) → Fair o cs at (equals rd o cs at)
-  unfolding equals width_of
-  equals_fair o cs at = fair_mark o 61 EqualsEquals cs at _ refl refl (equals_2 o cs at _ (fair_here o cs at Equals refl))
-
-  pub word_fair : (w : List ℕ) (o : ℕ) (cs : List ℕ) (at : ℕ) → Fair o cs at (word_token rd w o cs at)
-  unfolding word_token
-  word_fair w o cs at =
-      let u = fair_here o cs at Underscore refl in
-      let v = use_fair o cs at in
-      let k = keyword_fair keywords all_keywords w o cs at in
-      search fair_test
-
-  pub identifier_fair : (front : List ℕ) (o : ℕ) (cs : List ℕ) (at : ℕ) → Fair o cs at (identifierish rd front o cs at)
-  unfolding identifierish
-  identifier_fair front o cs at = go (seek Word cs at) refl
-    where
-      go : (f : Found) → seek Word cs at ≡ f → Fair o cs at (identifier_by rd front o cs f)
-      go (At p m) e = fair_more o cs at m p _ (seek-at cs at p m Word e) (word_fair _ o (drop m cs) p)
-      go (Nothing p m) e = fair_more o cs at m p _ (seek-none cs at p m Word e) (word_fair _ o (drop m cs) p)
-
-  pub hashed_fair : (front : List ℕ) (o h : ℕ) (cs : List ℕ) (p : ℕ) → Fair o cs p (hashed rd front o h cs p)
-  unfolding hashed
-  hashed_fair front o h [] p = fair_refuse o [] p _ o p 0 (far_none [] p)
-  hashed_fair front o h (c ∷ cs) p =
-      let u = fair_one o cs p c _ (regex_fair o h cs (p + width_of c)) in
-      let v = fair_one o cs p c _ (identifier_fair front o cs (p + width_of c)) in
-      let w = far_none (c ∷ cs) p in
-      search (fair_test, fair_refuse)
-
-  regex_literal_fair : (front : List ℕ) (o : ℕ) (cs : List ℕ) (at : ℕ) → Fair o cs at (regex_literal rd front o cs at)
-  unfolding regex_literal
-  regex_literal_fair front o cs at = go (seek Hashes cs at) refl
-    where
-      go : (f : Found) → seek Hashes cs at ≡ f → Fair o cs at (regex_literal_by rd front o cs f)
-      go (At p m) e = fair_more o cs at m p _ (seek-at cs at p m Hashes e) (hashed_fair front o m (drop m cs) p)
-      go (Nothing p m) e = fair_refuse o cs at _ o p m (seek-none cs at p m Hashes e)
-
-  pub r_fair : (front : List ℕ) (o : ℕ) (cs : List ℕ) (at : ℕ) → Fair o cs at (r_word rd front o cs at)
-  unfolding r_word
-  r_fair front o cs at =
-      fair_next o cs at 35 cs _ _ (regex_literal_fair front o cs at)
-      (fair_next o cs at 34 cs _ _ (regex_literal_fair front o cs at) (identifier_fair front o cs at))
-
-  starts-taken : (c : ℕ) (cs : List ℕ) (o : ℕ) → Taken o (c ∷ cs) (starts rd c cs o (o + width_of c))
-  unfolding starts
-  starts-taken c cs o =
-      search (taken-test, taken-one, taken-stray, bang_fair, colon_fair, dot_fair, equals_fair, look_fair, tilde_fair, escape_fair, lifetimeish_fair, string_fair, fair_half, minus_fair, r_fair, identifier_fair) depth 18
-
-  -- every token but those that a hash starts
-  pub plain-taken : (c : ℕ) (cs : List ℕ) (o : ℕ) → Taken o (c ∷ cs) (single singles c o (o + width_of c) (starts rd c cs o (o + width_of c)))
-  plain-taken c cs o = taken-single c o cs singles all_singles _ (starts-taken c cs o)

@@ -29,5 +29,5 @@ unfoldable pub gap : List ℕ → ℕ → Skip
 gap cs at = walk gap_turn gap_last 0 cs at
 
 -- the greatest depth of the block comments in it
-abbrev pub gap_depth : List ℕ → ℕ → ℕ
-gap_depth cs at = walk_depth gap_turn cs at
+abbrev pub gap_depth_of : List ℕ → ℕ → ℕ
+gap_depth_of cs at = walk_depth gap_turn cs at

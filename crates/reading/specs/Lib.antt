@@ -10,17 +10,13 @@ pub mod Next
 pub mod Run
 pub mod Blank
 pub mod Measures
-pub mod Ledger
 -- the laws that lead there, and those that the code cites
 pub mod Passes
 pub mod Calls
 pub mod CallLaw
 pub mod Blanks
-pub mod AnyCall
-pub mod Story
 pub mod Sums
 pub mod Steps
 pub mod Reached
-pub mod Inside
 pub mod Sights
 pub mod Own

@@ -8,7 +8,7 @@ use Rattle.scan.specs.declared.Skip.{Skip}
 use Rattle.scan.specs.declared.Skip.TheVariants.{Lost, Past}
 use Rattle.reading.specs.Answers.{fail, more, told}
 use Rattle.reading.specs.Attribute.{hash}
-use Rattle.reading.specs.Gaps.{gap, gap_depth}
+use Rattle.reading.specs.Gaps.{gap, gap_depth_of}
 use Rattle.reading.specs.Quotes.{escape, lifetimeish, string_literal}
 use Rattle.reading.specs.Regex.{r_word}
 use Rattle.reading.specs.Symbols.{bang, colon, dot, equals, half, look, minus, single, singles, stray, tilde}
@@ -37,7 +37,7 @@ unfoldable pub token : Reading → ℕ → List ℕ → ℕ → ℕ → Call
 token rd c cs o next = cond (eqb c '#) (more 1 (hash rd o cs next)) (single singles c o next (starts rd c cs o next))
 
 unfoldable pub token_or_end : Reading → List ℕ → ℕ → Call
-token_or_end rd [] o = record { what = End; at = o; advances = 0; gap_depth_lem = 0; code_depth_lem = 0 }
+token_or_end rd [] o = record { what = End; at = o; advances = 0; gap_depth = 0; code_depth = 0 }
 token_or_end rd (c ∷ cs) o = token rd c cs o (o + width_of c)
 
 -- after a gap whose comments go d deep
@@ -46,4 +46,4 @@ next_by rd cs (Past p m) d = told d (more m (token_or_end rd (drop m cs) p))
 next_by rd cs (Lost r p m) d = fail r p m
 
 unfoldable pub next : Reading → List ℕ → ℕ → Call
-next rd cs at = next_by rd cs (gap cs at) (gap_depth cs at)
+next rd cs at = next_by rd cs (gap cs at) (gap_depth_of cs at)

@@ -22,8 +22,8 @@ shift_token k t = record {
   end = t.end + k;
   payload_start = t.payload_start + k;
   payload_end = t.payload_end + k;
-  gap_depth_lem = t.gap_depth_lem;
-  code_depth_lem = t.code_depth_lem;
+  gap_depth = t.gap_depth;
+  code_depth = t.code_depth;
 }
 
 abbrev pub shift_what : ℕ → What → What
@@ -41,11 +41,11 @@ done_by End = Ended
 abbrev pub step_by : ℕ → ℕ → Tokenizer → Call → Stepped
 step_by shift limit t x =
     cond (ltb limit (t.count + x.advances))
-    (record { what = Error (refusal WorkLimit (t.at + shift)); next = t; gap_depth_lem = 0 })
+    (record { what = Error (refusal WorkLimit (t.at + shift)); next = t; gap_depth = 0 })
     (record {
       what = shift_what shift x.what;
       next = record { at = x.at; count = t.count + x.advances; done = done_by (shift_what shift x.what); reading = t.reading };
-      gap_depth_lem = x.gap_depth_lem;
+      gap_depth = x.gap_depth;
     })
 
 -- what a run answers: the tokens delivered, how it stopped, the tokenizer afterwards, and how deep the comments of the last gap go
@@ -82,8 +82,8 @@ module _ (call : Reading → List ℕ → ℕ → Call) where
   -- 01: "Once a run has answered an error or the end, further calls repeat it with the same count and place"
   abbrev pub step_in_with : Outcome → List ℕ → ℕ → ℕ → Tokenizer → Stepped
   step_in_with Running s shift limit t = step_by shift limit t (call t.reading (chars (drop t.at s)) t.at)
-  step_in_with Ended s shift limit t = record { what = End; next = t; gap_depth_lem = 0 }
-  step_in_with (Refused r) s shift limit t = record { what = Error r; next = t; gap_depth_lem = 0 }
+  step_in_with Ended s shift limit t = record { what = End; next = t; gap_depth = 0 }
+  step_in_with (Refused r) s shift limit t = record { what = Error r; next = t; gap_depth = 0 }
 
   unfoldable pub step_with : List ℕ → ℕ → ℕ → Tokenizer → Stepped
   step_with s shift limit t = step_in_with t.done s shift limit t
@@ -92,7 +92,7 @@ module _ (call : Reading → List ℕ → ℕ → Call) where
     -- at most k calls
     unfoldable pub run_from_with : ℕ → ℕ → Tokenizer → Run
     run_from_with zero room t = stopped Running t
-    run_from_with (suc k) room t = turn (run_from_with k) room t (step_with s shift limit t).next (step_with s shift limit t).gap_depth_lem (step_with s shift limit t).what
+    run_from_with (suc k) room t = turn (run_from_with k) room t (step_with s shift limit t).next (step_with s shift limit t).gap_depth (step_with s shift limit t).what
 
   -- as many calls as bytes, and one more: they suffice where a token passes at least one byte, as each of `next` does
   unfoldable pub run_with : List ℕ → ℕ → ℕ → ℕ → Tokenizer → Run

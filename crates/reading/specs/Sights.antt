@@ -2,7 +2,8 @@
 use Rattle.std.specs.Prelude.{◌+◌, ◌-◌, ◌<◌, ◌≤◌, ℕ, cond, List, ◌≡◌, eqb, get_or, length}
 use Rattle.std.proofs.Common.{arith, ◌∙◌, ap, sym}
 use Rattle.utf8.specs.Chars.{'?, '[, '], 'at, 'dquote, 'newline, 'quote}
-use Rattle.utf8.specs.Laws.{Ended, Seen, seen, sight_ascii}
+use Rattle.utf8.proofs.Laws.{seen}
+use Rattle.utf8.specs.Laws.{Ended, Seen, sight_ascii}
 use Rattle.utf8.specs.Picks.{picks}
 use Rattle.unicode_xid.specs.Identifier.{is_identifier_start}
 use Rattle.record.specs.declared.Code.TheVariants.{UnterminatedCharacterLiteral, UnterminatedCode}
@@ -11,7 +12,7 @@ use Rattle.record.specs.declared.Refusal.{Refusal}
 use Rattle.record.specs.declared.Reading.{Reading}
 use Rattle.scan.specs.Far.{Far, Lands, far_left, far_none, lands}
 use Rattle.scan.specs.IfNext.{if_next}
-use Rattle.scan.specs.Passes.{Balance, Good, Sound, seek-at}
+use Rattle.scan.specs.Passes.{Balance, Good, seek-at}
 use Rattle.scan.specs.Seek.{seek}
 use Rattle.scan.specs.Turns.{walk_pass}
 use Rattle.scan.specs.Until.{left}

@@ -6,8 +6,8 @@ use Rattle.std.proofs.Math.Bool.{false, true}
 use mathlib.Core.List.{List, [], ◌∷◌}
 use Rattle.std.proofs.Math.Path.{refl, sym}
 use Rattle.std.proofs.Math.Dec.{eqb}
-use Rattle.std.proofs.Math.ListN.{length, length-drop}
-use borrow.Author.Tests.{eq-eqb, eqb-false, eqb-true, le-leb, leb-false, lt-leb, ne_eqb}
+use Rattle.std.proofs.Math.ListN.{length}
+use borrow.Author.Tests.{eq-eqb, eqb-false, eqb-true, le-leb, lt-leb, ne_eqb}
 use Rattle.utf8.specs.Laws.{Ended, Seen}
 use Rattle.utf8.specs.Utf8.{width_of}
 use Rattle.unicode_xid.specs.Identifier.{is_identifier_start}
@@ -15,38 +15,30 @@ use Rattle.unicode_xid.specs.Whitespace.{is_whitespace}
 use Rattle.record.specs.declared.Code.TheVariants.{ExpectedStringLiteral, UnterminatedStringLiteral}
 use Rattle.record.specs.declared.Refusal.{Refusal}
 use Rattle.record.specs.declared.Reading.{Reading}
-use Rattle.scan.specs.Deepens.{depth-calm, depth-stop}
 use Rattle.scan.specs.Depth.{depth_from}
-use Rattle.scan.specs.Far.{Far, far_left, far_none, fits, lands}
+use Rattle.scan.specs.Far.{Far, far_left}
 use Rattle.scan.specs.Passes.{seek-at, seek-none}
 use Rattle.scan.specs.Readers.{reg_done, reg_step}
-use Rattle.scan.specs.Runs.{byte_seen, neither, run, run_on, run-over}
 use Rattle.scan.specs.Seek.{block_comment, line_skip, seek, skip_more}
 use Rattle.scan.specs.Steps.{reg_less}
-use Rattle.scan.specs.Turns.{walk_pass, walk-stop}
 use Rattle.scan.specs.Until.{left, until}
 use Rattle.scan.specs.Walk.{turn_of, walk_from}
 use Rattle.scan.specs.declared.Found.TheVariants.{At, Nothing}
 use Rattle.scan.specs.declared.Skip.TheVariants.{Lost, Past}
 use Rattle.scan.specs.declared.Sought.TheVariants.{Hashes, Word}
 use Rattle.scan.specs.declared.Turn.TheVariants.{Fail, Pass, Stop}
-use Rattle.reading.specs.Answers.{deliver, fail, more, plain, refuse, told}
-use Rattle.reading.specs.Attribute.{attempt, attribute_token, dropped, hash, hash_by}
-use Rattle.reading.specs.CallLaw.{LaidIn, Tried, attempt_tried, next-laid, tail_far}
-use Rattle.reading.specs.Calls.{plain-taken}
-use Rattle.reading.specs.Gaps.{comment_turn, gap, gap_depth, gap_last, gap_turn}
-use Rattle.reading.specs.Measures.{is_hash, wasted}
+use Rattle.reading.specs.Answers.{fail, more, refuse, told}
+use Rattle.reading.specs.Attribute.{attempt, attribute_token, hash}
+use Rattle.reading.specs.CallLaw.{attempt_tried}
+use Rattle.reading.specs.Gaps.{comment_turn, gap, gap_depth_of, gap_last, gap_turn}
 use Rattle.reading.specs.Next.{next, starts, token, token_or_end}
 use Rattle.reading.specs.Passes.{gap_good, gap_sound}
 use Rattle.reading.specs.Regex.{hashed, regex_literal, regex_token}
-use Rattle.reading.specs.Sums.{cost-le, passed_by, placed_far, wasted-most}
 use Rattle.reading.specs.Symbols.{single, singles, stray}
 use Rattle.reading.specs.Words.{identifierish, spells, word_token}
-use Rattle.reading.specs.declared.Attempt.{Attempt}
-use Rattle.reading.specs.declared.Attempt.TheVariants.{Closed, Failed}
+use Rattle.reading.specs.declared.Attempt.TheVariants.{Closed}
 use Rattle.reading.specs.declared.Call.{Call}
-use Rattle.reading.specs.declared.What.{What}
-use Rattle.reading.specs.declared.What.TheVariants.{End, Error, Got}
+use Rattle.reading.specs.declared.What.TheVariants.{End}
 
 -- a word's letters, one by one
 module _ {s : List ℕ} {at : ℕ} where
@@ -143,79 +135,17 @@ gap_far x h = rw (le-leb 128 x h)
 pub gap_near : (x : ℕ) (d : Bool) → x < 128 → not (is_whitespace x) ≡ d → gap_stop x ≡ d
 gap_near x d h e = rw (lt-leb 128 x h) e
 
-not-false : (d : Bool) → not d ≡ false → d ≡ true
+pub not-false : (d : Bool) → not d ≡ false → d ≡ true
 not-false true e = refl
 not-false false e = sym e
 
-space_none : (x : ℕ) → is_whitespace x ≡ true → x ≡ 47 → ⊥
+pub space_none : (x : ℕ) → is_whitespace x ≡ true → x ≡ 47 → ⊥
 space_none x w z = let u : false ≡ true = sym (ap is_whitespace z) ∙ w in let v : ◌≡◌ {A = ℕ} 0 1 = cc in omega arith
 
-space_turn : (x : ℕ) (cs : List ℕ) (at next : ℕ) → is_whitespace x ≡ true → gap_turn 0 x cs at next ≡ Pass next 0 0
+pub space_turn : (x : ℕ) (cs : List ℕ) (at next : ℕ) → is_whitespace x ≡ true → gap_turn 0 x cs at next ≡ Pass next 0 0
 unfolding gap_turn
 space_turn x cs at next w =
     rw (ne_eqb x 47 (space_none x w)) (rw w)
-
-stop-turn : (x : ℕ) (cs : List ℕ) (at next : ℕ) → (x ≡ 47 → ⊥) → is_whitespace x ≡ false → gap_turn 0 x cs at next ≡ Stop
-unfolding gap_turn
-stop-turn x cs at next n w = rw (ne_eqb x 47 n) (rw w)
-
-module _ (s : List ℕ) where
-  -- a byte below 128 that neither is white space nor starts a comment ends the gap
-  pub gap-over : (at n : ℕ) → at < length s → get_or s at 0 < 128 → (get_or s at 0 ≡ 47 → ⊥) → is_whitespace (get_or s at 0) ≡ false
-      → walk_from gap_turn gap_last 0 (left s at) 0 at n ≡ Past at n
-  gap-over at n l a b w = walk-stop gap_turn gap_last (byte_seen s at l a) 0 n (stop-turn (get_or s at 0) (left s (at + 1)) at (at + 1) b w)
-
-  gap-on : (at n : ℕ) → at < length s → gap_stop (get_or s at 0) ≡ false
-      → walk_from gap_turn gap_last 0 (left s at) 0 at n ≡ walk_from gap_turn gap_last 0 (left s (at + 1)) 0 (at + 1) (n + 1)
-  gap-on at n l e =
-      let b = neither (leb 128 (get_or s at 0)) (not (is_whitespace (get_or s at 0))) e in
-      let h = byte_seen s at l (leb-false _ _ b.0) in
-      let q : n + 1 + 0 ≡ n + 1 = omega arith in
-      let f : Far (left s (at + 1)) (at + 1) 0 (at + 1) = far_none _ _ in
-      rw q at (walk_pass gap_turn gap_last h 0 n (space_turn (get_or s at 0) (left s (at + 1)) at (at + 1) (not-false _ b.1)) (lands 0 s (at + 1) (at + 1) f))
-
-  pub gap-run : (from to n : ℕ) → to ≡ from + run gap_stop (drop from s)
-      → walk_from gap_turn gap_last 0 (left s to) 0 to (n + (to - from)) ≡ walk_from gap_turn gap_last 0 (left s from) 0 from n
-  gap-run = run-over s gap_stop (λ (at n : ℕ). walk_from gap_turn gap_last 0 (left s at) 0 at n) gap-on
-
-  -- nor does it go deeper there
-  pub over_level : (at d : ℕ) → at < length s → get_or s at 0 < 128 → (get_or s at 0 ≡ 47 → ⊥) → is_whitespace (get_or s at 0) ≡ false
-      → depth_from gap_turn 0 (left s at) 0 at d ≡ d
-  over_level at d l a b w = depth-stop gap_turn (byte_seen s at l a) 0 d (stop-turn (get_or s at 0) (left s (at + 1)) at (at + 1) b w)
-
-  level_on : (d at n : ℕ) → at < length s → gap_stop (get_or s at 0) ≡ false
-      → depth_from gap_turn 0 (left s at) 0 at d ≡ depth_from gap_turn 0 (left s (at + 1)) 0 (at + 1) d
-  level_on d at n l e =
-      let b = neither (leb 128 (get_or s at 0)) (not (is_whitespace (get_or s at 0))) e in
-      let h = byte_seen s at l (leb-false _ _ b.0) in
-      let w = not-false (is_whitespace (get_or s at 0)) b.1 in
-      let f : Far (left s (at + 1)) (at + 1) 0 (at + 1) = far_none _ _ in
-      depth-calm gap_turn h 0 d (space_turn (get_or s at 0) (left s (at + 1)) at (at + 1) w) (lands 0 s (at + 1) (at + 1) f) (space_none (get_or s at 0) w)
-
-  pub level_run : (d from to : ℕ) → to ≡ from + run gap_stop (drop from s)
-      → depth_from gap_turn 0 (left s to) 0 to d ≡ depth_from gap_turn 0 (left s from) 0 from d
-  level_run d from to e = run-over s gap_stop (λ (at n : ℕ). depth_from gap_turn 0 (left s at) 0 at d) (level_on d) from to 0 e
-
-  -- the byte that such a run stops at: below 128 it is no whitespace
-  pub run_done : (from to : ℕ) → to ≡ from + run gap_stop (drop from s) → to < length s → get_or s to 0 < 128 → is_whitespace (get_or s to 0) ≡ false
-  run_done from to e l a = go (is_whitespace (get_or s to 0)) refl
-    where
-      -- a run from where a run ends is none
-      none : to + run gap_stop (drop to s) ≡ from + run gap_stop (drop from s)
-      none = run-over s gap_stop (λ (at n : ℕ). at + run gap_stop (drop at s)) (λ at n h q. omega (arith, run_on gap_stop s at h q)) from to 0 e
-
-      go : (b : Bool) → is_whitespace (get_or s to 0) ≡ b → is_whitespace (get_or s to 0) ≡ false
-      go true q = absurd (omega (arith, none, run_on gap_stop s to l (gap_near (get_or s to 0) false a (ap not q))))
-      go false q = q
-
-  -- so one that starts no comment ends the gap
-  pub gap_ends : (from to : ℕ) → to ≡ from + run gap_stop (drop from s) → to < length s → get_or s to 0 < 128 → (get_or s to 0 ≡ 47 → ⊥)
-      → (gap (left s from) from ≡ Past to (to - from)) × (gap_depth (left s from) from ≡ 0)
-  unfolding gap
-  gap_ends from to e l a n =
-      let w = run_done from to e l a in
-      let q : 0 + (to - from) ≡ to - from = omega arith in
-      (sym (rw q at (gap-run from to 0 e)) ∙ gap-over to (to - from) l a n w, sym (level_run 0 from to e) ∙ over_level to 0 l a n w)
 
 -- in every reading
 module _ (rd : Reading) where
@@ -224,13 +154,13 @@ module _ (rd : Reading) where
     unfolding token_or_end
     token-on h = rw (h.next, h.width)
 
-    pub token_end : Ended s at → token_or_end rd (left s at) at ≡ record { what = End; at = at; advances = 0; gap_depth_lem = 0; code_depth_lem = 0 }
+    pub token_end : Ended s at → token_or_end rd (left s at) at ≡ record { what = End; at = at; advances = 0; gap_depth = 0; code_depth = 0 }
     unfolding token_or_end
     token_end h = rw h.none
 
   -- a reader, and then another at the place that it came to
   module _ (s : List ℕ) (at p m : ℕ) where
-    pub next-gap : gap (left s at) at ≡ Past p m → next rd (left s at) at ≡ told (gap_depth (left s at) at) (more m (token_or_end rd (left s p) p))
+    pub next-gap : gap (left s at) at ≡ Past p m → next rd (left s at) at ≡ told (gap_depth_of (left s at) at) (more m (token_or_end rd (left s p) p))
     unfolding next
     next-gap e =
         let f : Far (left s at) at m p = (rw e at (gap_sound (left s at) at)).is in
@@ -262,53 +192,6 @@ module _ (rd : Reading) where
     hash-closed o e =
         let f : Far (left s at) at m p = (rw e at (attempt_tried (left s at) at)).is in
         rw (e, far_left s at m p f)
-
-  -- a token's advances are no more than the characters that are left, a failed attempt's among them
-  hash-most : (o : ℕ) (cs : List ℕ) (at : ℕ) → (hash rd o cs at).advances ≤ length cs
-  unfolding hash more attribute_token plain deliver dropped
-  hash-most o cs at = go (attempt cs at) (attempt_tried cs at)
-    where
-      go : (x : Attempt) → Tried cs at x → (hash_by rd o cs at x).advances ≤ length cs
-      go (Closed p m) h = let f : Far cs at m p = h.is in omega (arith, f.within, (tail_far rd (drop m cs) p).within, length-drop m cs)
-      go (Failed p m) h = h.is.within
-
-  token-most : (cs : List ℕ) (o : ℕ) → (token_or_end rd cs o).advances ≤ length cs
-  unfolding token_or_end token more
-  token-most [] o = omega arith
-  token-most (c ∷ cs) o = go (eqb c 35) refl
-    where
-      go : (t : Bool) → eqb c 35 ≡ t → (token rd c cs o (o + width_of c)).advances ≤ length (c ∷ cs)
-      go true q = rw q (omega (arith, hash-most o cs (o + width_of c)))
-      go false q = rw q (plain-taken rd c cs o).fair.far.within
-
-  module _ (s : List ℕ) (at : ℕ) {x : Call} where
-    pub hash-fits : (o : ℕ) → x ≡ hash rd o (left s at) at → x.advances ≤ length s
-    hash-fits o e = omega (arith, ap (λ (z : Call). z.advances) e, hash-most o (left s at) at, fits s at)
-
-    pub token-fits : x ≡ token_or_end rd (left s at) at → x.advances ≤ length s
-    token-fits e = omega (arith, ap (λ (z : Call). z.advances) e, token-most (left s at) at, fits s at)
-
-  within_in : (s : List ℕ) (at : ℕ) → at ≤ length s → (p n : ℕ) (w : What) → LaidIn rd (left s at) at p n w → (p ≤ length s) × (n ≤ 2 * length (left s at))
-  within_in s at l p n (Got t) h =
-      let f = placed_far rd (left s at) at t p n h in
-      let y = lands (passed_by rd h) s at p f in
-      let c = cost-le (is_hash t.kind) (wasted (drop h.gapped (left s at)) t.start) in
-      let d = wasted-most (drop h.gapped (left s at)) t.start in
-      let e = length-drop h.gapped (left s at) in
-      let g = f.within in
-      let z = h.spent in
-      (y.room l, omega (arith, c, d, e, g, z))
-  within_in s at l p n (Error r) h = let y = lands n s at p h in (y.room l, omega (arith, h.within))
-  within_in s at l p n End h =
-      let f : Far (left s at) at n p = (rw h.0 at (gap_sound (left s at) at)).is in
-      let y = lands n s at p f in
-      (y.room l, omega (arith, h.1))
-
-  pub call-within : (s : List ℕ) (at : ℕ) → at ≤ length s → Within s at (next rd (left s at) at)
-  call-within s at l =
-      let x = next rd (left s at) at in
-      let h = within_in s at l x.at x.advances x.what (next-laid rd (left s at) at).is in
-      record { room = h.0; most = h.1 }
 
   -- after r and hashes, by the code's own sight of what follows them
   module _ (whole : List ℕ) (o h : ℕ) {s : List ℕ} {at : ℕ} where

@@ -7,7 +7,7 @@ use Rattle.record.specs.declared.Kind.{Kind}
 use Rattle.record.specs.declared.Kind.TheVariants.{Ampersand, Bang, BangEquals, BangTilde, Colon, ColonColon, Comma, DotDot, Equals, EqualsEquals, EqualsGreaterThanCode, EqualsGreaterThanLookahead, EqualsGreaterThanLookbehind, EqualsGreaterThanQuestionCode, GreaterThan, LeftBrace, LeftBracket, LeftParen, LessThan, Lookahead, Lookbehind, MinusGreaterThan, Plus, Question, RightBrace, RightBracket, RightParen, Semi, Star, TildeTilde}
 use Rattle.record.specs.declared.Reading.{Reading}
 use Rattle.scan.specs.IfNext.{if_next}
-use Rattle.code.specs.Code.{code_depth, code_end}
+use Rattle.code.specs.Code.{code_depth_of, code_end}
 use Rattle.reading.specs.Answers.{more, plain, refuse}
 use Rattle.reading.specs.Words.{code_token}
 use Rattle.reading.specs.declared.Call.{Call}
@@ -54,7 +54,7 @@ arrow_look o cs at =
     if_next 'L cs (plain EqualsGreaterThanLookahead o (at + 1) 1) (if_next 'R cs (plain EqualsGreaterThanLookbehind o (at + 1) 1) (half o at))
 
 unfoldable pub arrow_code : Reading → Kind → ℕ → List ℕ → ℕ → Call
-arrow_code rd kind o cs at = code_token kind o at (code_end rd o cs at) (code_depth rd cs at)
+arrow_code rd kind o cs at = code_token kind o at (code_end rd o cs at) (code_depth_of rd cs at)
 
 -- after =>. 01: "`=>` at the end of text is 8"
 unfoldable pub right_arrow : Reading → ℕ → List ℕ → ℕ → Call

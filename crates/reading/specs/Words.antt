@@ -12,7 +12,7 @@ use Rattle.scan.specs.declared.Found.TheVariants.{At, Nothing}
 use Rattle.scan.specs.declared.Skip.{Skip}
 use Rattle.scan.specs.declared.Skip.TheVariants.{Lost, Past}
 use Rattle.scan.specs.declared.Sought.TheVariants.{Word}
-use Rattle.code.specs.Code.{code_depth, code_end}
+use Rattle.code.specs.Code.{code_depth_of, code_end}
 use Rattle.reading.specs.Answers.{coded, deliver, fail, more, plain}
 use Rattle.reading.specs.declared.Call.{Call}
 
@@ -48,7 +48,7 @@ code_token kind o from (Past p m) d = coded d (deliver kind o from p p m)
 code_token kind o from (Lost r p m) d = fail r p m
 
 unfoldable pub use_token : Reading → ℕ → List ℕ → ℕ → Call
-use_token rd o rest p = code_token Use o p (code_end rd o rest p) (code_depth rd rest p)
+use_token rd o rest p = code_token Use o p (code_end rd o rest p) (code_depth_of rd rest p)
 
 -- no keyword: "MacroId if < follows at once, else Id"
 unfoldable pub id_token : ℕ → List ℕ → ℕ → Call

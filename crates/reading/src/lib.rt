@@ -1,18 +1,20 @@
 // What a call and a run answer. The reading rules stand in specs/, as definitions over characters; `words` and `tok` have the code.
+#![tactic(auto)]
+
 ghost use Rattle.std.specs.Prelude.{◌≡◌};
 ghost use Rattle.reading.specs.Answers.{deliver, fail, plain, refuse};
 
 use record::{Code, Kind, Reading, Refusal, Token};
 
 // An attribute attempt: closed, with the place after `]` and the characters passed; or failed, with the place that it got to and the advances that it took.
-#[derive(Drop)]
+#[derive(Clone, Copy)]
 pub enum Attempt {
     Closed(usize, usize),
     Failed(usize, usize),
 }
 
 // What a call answers.
-#[derive(Drop)]
+#[derive(Clone, Copy)]
 pub enum What {
     Got(Token),
     Error(Refusal),
@@ -20,7 +22,7 @@ pub enum What {
 }
 
 // A call: its answer, the cursor after it, the advances that it took, and how deep the comments of its gap and of its code go.
-#[derive(Drop)]
+#[derive(Clone, Copy)]
 pub struct Call {
     pub what: What,
     pub at: u64,
@@ -30,7 +32,7 @@ pub struct Call {
 }
 
 // Whether and how a tokenizer has ended.
-#[derive(Drop)]
+#[derive(Clone, Copy)]
 pub enum Outcome {
     Running,
     Ended,
@@ -38,7 +40,7 @@ pub enum Outcome {
 }
 
 // The cursor, the advances till now, whether it has ended, and the reading that its caller chose.
-#[derive(Drop)]
+#[derive(Clone, Copy)]
 pub struct Tokenizer {
     pub at: u64,
     pub count: u64,
@@ -47,7 +49,7 @@ pub struct Tokenizer {
 }
 
 // An answer, the tokenizer after it, and how deep the comments go in the gap that was read for it.
-#[derive(Drop)]
+#[derive(Clone, Copy)]
 pub struct Stepped {
     pub what: What,
     pub next: Tokenizer,

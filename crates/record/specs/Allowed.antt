@@ -1,12 +1,11 @@
 -- What a text that passed the checks is known to be.
-use Rattle.std.specs.Prelude.{ℕ, ◌+◌, ◌≤◌, Bool, true, false, cond, List, ◌≡◌, refl, ltb, length}
-use Rattle.std.proofs.Common.{arith, sym, ◌∙◌}
+use Rattle.std.specs.Prelude.{ℕ, ◌+◌, ◌≤◌, Bool, true, false, List, ◌≡◌, refl, ltb, length}
+use Rattle.std.proofs.Common.{arith, ◌∙◌}
 use Rattle.utf8.specs.declared.Utf8.{Utf8}
 use Rattle.utf8.specs.declared.Utf8.TheVariants.{Bad, Valid}
 use Rattle.utf8.specs.Picks.{tests}
 use Rattle.utf8.specs.Utf8.{verdict}
 use Rattle.record.specs.Checks.{check_utf8, checks, shift_limit, text_limit}
-use Rattle.record.specs.declared.Checked.{Checked}
 use Rattle.record.specs.declared.Checked.TheVariants.{Passed, Refused}
 use Rattle.record.specs.declared.Refusal.{Refusal}
 

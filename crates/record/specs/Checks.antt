@@ -1,5 +1,5 @@
 -- The checks before any reading.
-use Rattle.std.specs.Prelude.{ℕ, ◌+◌, Bool, cond, List, length, ltb}
+use Rattle.std.specs.Prelude.{ℕ, ◌+◌, cond, List, length, ltb}
 use Rattle.utf8.specs.declared.Utf8.{Utf8}
 use Rattle.utf8.specs.declared.Utf8.TheVariants.{Valid, Bad}
 use Rattle.utf8.specs.Utf8.{verdict}

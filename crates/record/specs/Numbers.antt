@@ -1,6 +1,6 @@
 -- 01: "Kinds number 0 to 53 in the order of the `Tok` enum, the dummies absent"; refusals number 1 to 20 as in its table,
 -- and 21 to 29 as in document 02's.
-use Rattle.std.specs.Prelude.{◌≡◌, refl, Bool, cond, List, [], ◌∷◌, ℕ, ◌-◌, ltb, eqb, get_or}
+use Rattle.std.specs.Prelude.{◌≡◌, refl, cond, List, [], ◌∷◌, ℕ, ◌-◌, ltb, get_or}
 use Rattle.record.specs.declared.Kind.{Kind}
 use Rattle.record.specs.declared.Kind.TheVariants.{Enum, Extern, Grammar, Match, Else, If, Mut, Pub, In, «Type», Where, For, Dyn, Use, Escape, Id, MacroId, Lifetime, StringLiteral, CharLiteral, RegexLiteral, Ampersand, BangEquals, BangTilde, Colon, ColonColon, Comma, DotDot, Equals, EqualsEquals, EqualsGreaterThanCode, EqualsGreaterThanQuestionCode, EqualsGreaterThanLookahead, EqualsGreaterThanLookbehind, Hash, GreaterThan, LeftBrace, LeftBracket, LeftParen, LessThan, Lookahead, Lookbehind, MinusGreaterThan, Plus, Question, RightBrace, RightBracket, RightParen, Semi, Star, TildeTilde, Underscore, Bang, ShebangAttribute}
 use Rattle.record.specs.declared.Known.{Known}

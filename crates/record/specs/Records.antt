@@ -13,7 +13,7 @@ refusal code place = record { code = code; place = place }
 
 -- 01: "kind, start, end, payload start, payload end". 02, E4: "a record read from LTK says "not known"": so does every one that is made here
 abbrev pub token_of : Kind → ℕ → ℕ → ℕ → ℕ → Token
-token_of kind o e from to = record { kind = kind; start = o; end = e; payload_start = from; payload_end = to; gap_depth_lem = Unknown; code_depth_lem = Unknown }
+token_of kind o e from to = record { kind = kind; start = o; end = e; payload_start = from; payload_end = to; gap_depth = Unknown; code_depth = Unknown }
 
 -- the number for what is told: 2^64 - 1 where it is not known
 abbrev pub told_number : Told → ℕ

@@ -1,4 +1,6 @@
 // The words that all parts share: the kinds of token, the refusals, their numbers, and the checks that come before any reading.
+#![tactic(auto)]
+
 ghost use Rattle.std.specs.Prelude.{◌≡◌};
 ghost use Rattle.record.specs.Numbers.{kind_number, code_number, kind_of};
 ghost use Rattle.record.specs.Records.{told_number, token_of};
@@ -9,7 +11,7 @@ ghost use Rattle.record.specs.Rust.{rust_number};
 use utf8::Utf8;
 
 // The kinds of token, in the order of the Rust's `Tok`.
-#[derive(Drop)]
+#[derive(Clone, Copy)]
 pub enum Kind {
     Enum,
     Extern,
@@ -68,7 +70,7 @@ pub enum Kind {
 }
 
 // The refusals, in the order of their numbers: the first ten are the Rust's `ErrorCode`s.
-#[derive(Drop)]
+#[derive(Clone, Copy)]
 pub enum Code {
     UnrecognizedToken,
     UnterminatedEscape,
@@ -103,34 +105,34 @@ pub enum Code {
 }
 
 // How a text is read: 01's reading, or the one that keeps the letter after an attribute (document 02, E5).
-#[derive(Drop)]
+#[derive(Clone, Copy)]
 pub enum Reading {
     Old,
     Kept,
 }
 
 // The reading that has a number, if there is one.
-#[derive(Drop)]
+#[derive(Clone, Copy)]
 pub enum Chosen {
     Reading(Reading),
     Nothing,
 }
 
-#[derive(Drop)]
+#[derive(Clone, Copy)]
 pub struct Refusal {
     pub code: Code,
     pub place: u64,
 }
 
 // What a record tells besides, or that it is not known: so in a record that was read from a file.
-#[derive(Drop)]
+#[derive(Clone, Copy)]
 pub enum Told {
     Is(u64),
     Unknown,
 }
 
 // A token: its kind, its places, and the greatest depth of the block comments in the gap before it and in its code.
-#[derive(Drop)]
+#[derive(Clone, Copy)]
 pub struct Token {
     pub kind: Kind,
     pub start: u64,
@@ -142,14 +144,14 @@ pub struct Token {
 }
 
 // The kind that has a number, if there is one.
-#[derive(Drop)]
+#[derive(Clone, Copy)]
 pub enum Known {
     Kind(Kind),
     Nothing,
 }
 
 // Whether a text may be read with a shift.
-#[derive(Drop)]
+#[derive(Clone, Copy)]
 pub enum Checked {
     Passed,
     Refused(Refusal),

@@ -1,10 +1,12 @@
 // Answers that were recorded as lists of numbers: their parts, and where an answer first differs from what is recorded.
+#![tactic(auto)]
+
 ghost use Rattle.std.specs.Prelude.{◌≡◌, drop, get_or, take};
 ghost use Rattle.recorded.specs.Recorded.{differ};
 
 // Nothing differs; or the answer has not as many numbers as are recorded; or the first number that differs: its place in the answer, what is recorded
 // and what was answered.
-#[derive(Drop)]
+#[derive(Clone, Copy)]
 pub enum Difference {
     Same,
     Length(u64, u64),

@@ -2,7 +2,6 @@
 ghost use Rattle.std.specs.Prelude.{◌+◌, ◌≤◌, ◌<◌, length};
 
 use crate::say::say;
-use libc::STDIN_FILENO;
 use recorded::Difference;
 
 fn wide(b: u8) -> u64
@@ -19,19 +18,20 @@ fn two(s: &[u8], p: usize) -> usize
     (wide(s[p]) + 256 * wide(s[p + 1])) as usize
 }
 
-// Whether the file ends here. A read that came short may have failed, and one read more answers 0 at the end alone.
-pub(crate) fn is_end() -> bool {
+// Whether the file ends here: one read more answers 0 at the end alone.
+pub(crate) fn is_end(rt: &HostRuntime) -> bool {
     let mut more = [0u8; 1];
-    let got = libc::read(STDIN_FILENO, &mut more);
-    if got < 0 {
-        say(b"a read failed\n");
-        return false;
+    match system::read_once(&mut rt.stdin(), &mut more) {
+        Err(_) => {
+            say(rt, b"a read failed\n");
+            false
+        }
+        Ok(0) => true,
+        Ok(_) => {
+            say(rt, b"the file goes on\n");
+            false
+        }
     }
-    if 0 < got {
-        say(b"the file goes on\n");
-        return false;
-    }
-    true
 }
 
 // `replay 2`
@@ -46,17 +46,17 @@ pub(crate) fn is_mark(s: &[u8]) -> bool {
 }
 
 // A case that is read: how many bytes it has, and how many numbers; no numbers where it is not whole.
-#[derive(Drop)]
+#[derive(Clone, Copy)]
 pub struct Read {
     pub bytes: usize,
     pub numbers: usize,
 }
 
 // Reads the bytes of the next case into a buffer, and then its numbers.
-pub(crate) fn next(buffer: &mut [u8], list: &mut [u64]) -> Read
+pub(crate) fn next(rt: &HostRuntime, buffer: &mut [u8], list: &mut [u64]) -> Read
     ensures { (result.bytes ≤ length buffer.new) × (result.numbers ≤ length list.new) }
 {
-    let lengths = fetch(buffer);
+    let lengths = fetch(rt, buffer);
     let bytes = lengths.bytes;
     let end = lengths.end;
     Read {
@@ -66,34 +66,34 @@ pub(crate) fn next(buffer: &mut [u8], list: &mut [u64]) -> Read
 }
 
 // Where in the buffer the bytes of a case end, and where its numbers; both at 0 where the case is not whole.
-#[derive(Drop)]
+#[derive(Clone, Copy)]
 pub struct Lengths {
     pub bytes: usize,
     pub end: usize,
 }
 
-// Reads the next case into the buffer.
-fn fetch(buffer: &mut [u8]) -> Lengths
+// Reads the next case into the buffer. One whose read failed is not whole, as one that the end cuts.
+fn fetch(rt: &HostRuntime, buffer: &mut [u8]) -> Lengths
     ensures { (result.bytes ≤ result.end) × (result.end ≤ length buffer.new) }
 {
     let mut head = [0u8; 4];
-    let n = io::read_full(STDIN_FILENO, &mut head);
+    let n = system::read_all(&mut rt.stdin(), &mut head).unwrap_or(0);
     if n < 4 {
         return Lengths { bytes: 0, end: 0 };
     }
     let bytes = two(&head, 0);
-    fill(buffer, bytes, bytes + two(&head, 2))
+    fill(rt, buffer, bytes, bytes + two(&head, 2))
 }
 
 // Reads the bytes and the numbers of a case, to an end.
-fn fill(buffer: &mut [u8], bytes: usize, end: usize) -> Lengths
+fn fill(rt: &HostRuntime, buffer: &mut [u8], bytes: usize, end: usize) -> Lengths
     requires { bytes ≤ end }
     ensures { (result.bytes ≤ result.end) × (result.end ≤ length buffer.new) }
 {
     if buffer.len() < end {
         return Lengths { bytes: 0, end: 0 };
     }
-    let n = io::read_full(STDIN_FILENO, &mut buffer[0..end]);
+    let n = system::read_all(&mut rt.stdin(), &mut buffer[0..end]).unwrap_or(0);
     if n < end {
         return Lengths { bytes: 0, end: 0 };
     }
@@ -116,9 +116,8 @@ fn decode(bytes: &[u8], out: &mut [u64]) -> usize
 {
     let mut n: usize = 0;
     let mut v: u64 = 0;
-    let mut i: usize = 0;
-    while i < bytes.len() {
-        let b = wide(bytes[i]);
+    for byte in bytes {
+        let b = wide(*byte);
         if MOST < v {
             return 0;
         }
@@ -128,7 +127,6 @@ fn decode(bytes: &[u8], out: &mut [u64]) -> usize
             n += 1;
             v = 0;
         }
-        i += 1;
     }
     if out.len() < n {
         return 0;

@@ -1,5 +1,4 @@
 // What the program prints.
-use libc::STDOUT_FILENO;
 use recorded::Difference;
 
 // The forms in which a case is asked: a text in the first three, an expansion in the fourth.
@@ -12,7 +11,7 @@ pub const NUMBERS: usize = 2;
 pub const EXPAND: usize = 3;
 
 // A case: whether it is planted, whether its difference is said, whether it is a text or an expansion, and its number.
-#[derive(Drop)]
+#[derive(Clone, Copy)]
 pub struct Case {
     pub planted: bool,
     pub said: bool,
@@ -20,150 +19,151 @@ pub struct Case {
     pub index: u64,
 }
 
-pub(crate) fn say(words: &[u8]) {
-    io::write_all(STDOUT_FILENO, words);
+// What cannot be written is let go.
+pub(crate) fn say(rt: &HostRuntime, words: &[u8]) {
+    let _ = rt.write_all(words);
 }
 
-pub(crate) fn number(n: u64) {
-    io::print_decimal(STDOUT_FILENO, n);
+pub(crate) fn number(rt: &HostRuntime, n: u64) {
+    let _ = print!(rt; "{n}");
 }
 
 // Which case it is.
-fn title(c: Case) {
+fn title(rt: &HostRuntime, c: Case) {
     if c.planted {
-        say(b"planted ");
+        say(rt, b"planted ");
     }
     if c.is_text {
-        say(b"text ");
+        say(rt, b"text ");
     } else {
-        say(b"expansion ");
+        say(rt, b"expansion ");
     }
-    number(c.index);
+    number(rt, c.index);
 }
 
-pub(crate) fn not_whole(c: Case) {
-    title(c);
-    say(b" is not whole\n");
+pub(crate) fn not_whole(rt: &HostRuntime, c: Case) {
+    title(rt, c);
+    say(rt, b" is not whole\n");
 }
 
 // The case and the form.
-fn titles(c: Case, f: usize) {
-    title(c);
+fn titles(rt: &HostRuntime, c: Case, f: usize) {
+    title(rt, c);
     match f {
-        0 => say(b", run::run"),
-        1 => say(b", run::next"),
-        2 => say(b", run::run_numbers"),
+        0 => say(rt, b", run::run"),
+        1 => say(rt, b", run::next"),
+        2 => say(rt, b", run::run_numbers"),
         _ => {}
     }
 }
 
 // Which number of a token it is.
-fn of_token(i: usize) {
+fn of_token(rt: &HostRuntime, i: usize) {
     match i {
-        0 => say(b"kind"),
-        1 => say(b"start"),
-        2 => say(b"end"),
-        3 => say(b"payload start"),
-        _ => say(b"payload end"),
+        0 => say(rt, b"kind"),
+        1 => say(rt, b"start"),
+        2 => say(rt, b"end"),
+        3 => say(rt, b"payload start"),
+        _ => say(rt, b"payload end"),
     }
 }
 
 // Which number of a text's answer it is.
-fn of_text(i: usize) {
+fn of_text(rt: &HostRuntime, i: usize) {
     match i {
-        0 => say(b"number of tokens"),
-        1 => say(b"code"),
-        2 => say(b"place"),
-        3 => say(b"advances"),
-        4 => say(b"cursor"),
+        0 => say(rt, b"number of tokens"),
+        1 => say(rt, b"code"),
+        2 => say(rt, b"place"),
+        3 => say(rt, b"advances"),
+        4 => say(rt, b"cursor"),
         _ => {
             let k = i - 5;
-            of_token(k % 5);
-            say(b" of token ");
-            number((k / 5) as u64);
+            of_token(rt, k % 5);
+            say(rt, b" of token ");
+            number(rt, (k / 5) as u64);
         }
     }
 }
 
 // Which number of an expansion's answer it is.
-fn of_expansion(i: usize) {
+fn of_expansion(rt: &HostRuntime, i: usize) {
     match i {
-        0 => say(b"code"),
-        1 => say(b"place"),
-        2 => say(b"where it stands"),
-        3 => say(b"start"),
-        4 => say(b"end"),
-        5 => say(b"bytes written"),
+        0 => say(rt, b"code"),
+        1 => say(rt, b"place"),
+        2 => say(rt, b"where it stands"),
+        3 => say(rt, b"start"),
+        4 => say(rt, b"end"),
+        5 => say(rt, b"bytes written"),
         _ => {
-            say(b"byte ");
-            number((i - 6) as u64);
+            say(rt, b"byte ");
+            number(rt, (i - 6) as u64);
         }
     }
 }
 
 // Which number of a form's answer it is.
-fn field(f: usize, i: usize) {
+fn field(rt: &HostRuntime, f: usize, i: usize) {
     if f < EXPAND {
-        of_text(i);
+        of_text(rt, i);
         return;
     }
-    of_expansion(i);
+    of_expansion(rt, i);
 }
 
-fn both(recorded: u64, answered: u64) {
-    say(b": recorded ");
-    number(recorded);
-    say(b", answered ");
-    number(answered);
-    say(b"\n");
+fn both(rt: &HostRuntime, recorded: u64, answered: u64) {
+    say(rt, b": recorded ");
+    number(rt, recorded);
+    say(rt, b", answered ");
+    number(rt, answered);
+    say(rt, b"\n");
 }
 
-fn difference(f: usize, d: Difference) {
-    say(b": ");
+fn difference(rt: &HostRuntime, f: usize, d: Difference) {
+    say(rt, b": ");
     match d {
         Difference::Same => {}
         Difference::Length(r, a) => {
-            say(b"length of the answer");
-            both(r, a);
+            say(rt, b"length of the answer");
+            both(rt, r, a);
         }
         Difference::Number(i, r, a) => {
-            field(f, i);
-            both(r, a);
+            field(rt, f, i);
+            both(rt, r, a);
         }
     }
 }
 
 // A sheet that differs from the sums of the recorded answers.
-pub(crate) fn sum(d: Difference) {
+pub(crate) fn sum(rt: &HostRuntime, d: Difference) {
     match d {
         Difference::Same => {}
         Difference::Length(r, a) => {
-            say(b"length of a sheet");
-            both(r, a);
+            say(rt, b"length of a sheet");
+            both(rt, r, a);
         }
         Difference::Number(i, r, a) => {
-            say(b"number ");
-            number(i as u64);
-            say(b" of a sheet");
-            both(r, a);
+            say(rt, b"number ");
+            number(rt, i as u64);
+            say(rt, b" of a sheet");
+            both(rt, r, a);
         }
     }
 }
 
 // Whether a form of a case differs. A difference is said, and of a planted case also that there is none.
-pub(crate) fn differs(c: Case, f: usize, d: Difference) -> bool {
+pub(crate) fn differs(rt: &HostRuntime, c: Case, f: usize, d: Difference) -> bool {
     match d {
         Difference::Same => {
             if c.planted {
-                titles(c, f);
-                say(b" shows no difference\n");
+                titles(rt, c, f);
+                say(rt, b" shows no difference\n");
             }
             false
         }
         _ => {
             if c.said {
-                titles(c, f);
-                difference(f, d);
+                titles(rt, c, f);
+                difference(rt, f, d);
             }
             true
         }

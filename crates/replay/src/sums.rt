@@ -16,14 +16,14 @@ pub(crate) fn empty_row() -> [u64; 96]
 }
 
 // Whether a sheet holds what its row does; a difference is said, where it is to be.
-pub(crate) fn compare(said: bool, page: &mut [u64], row: &[u64]) -> bool {
+pub(crate) fn compare(rt: &HostRuntime, said: bool, page: &mut [u64], row: &[u64]) -> bool {
     summed::as_row(page);
     let d = recorded::numbers_differ(0, row, page);
     match d {
         Difference::Same => true,
         _ => {
             if said {
-                say::sum(d);
+                say::sum(rt, d);
             }
             false
         }
@@ -31,19 +31,17 @@ pub(crate) fn compare(said: bool, page: &mut [u64], row: &[u64]) -> bool {
 }
 
 fn clear(list: &mut [u64]) {
-    let mut i: usize = 0;
-    while i < list.len() {
-        list[i] = 0;
-        i += 1;
+    for number in list.iter_mut() {
+        *number = 0;
     }
 }
 
 // A sheet that is full is compared, and another is begun.
-fn turn(said: bool, page: &mut [u64], row: &mut [u64]) -> bool {
+fn turn(rt: &HostRuntime, said: bool, page: &mut [u64], row: &mut [u64]) -> bool {
     if recorded::get(row, TEXTS_TAKEN) < MOST_TEXTS {
         return true;
     }
-    let same = compare(said, page, row);
+    let same = compare(rt, said, page, row);
     clear(page);
     clear(row);
     same
@@ -51,13 +49,14 @@ fn turn(said: bool, page: &mut [u64], row: &mut [u64]) -> bool {
 
 // A text on the sheet, and its recorded answer on the row.
 pub(crate) fn add(
+    rt: &HostRuntime,
     said: bool,
     text: &[u8],
     numbers: &[u64],
     page: &mut [u64],
     row: &mut [u64],
 ) -> bool {
-    let same = turn(said, page, row);
+    let same = turn(rt, said, page, row);
     sheet::take(text, page);
     summed::recorded_onto(text, numbers, row);
     same

@@ -49,6 +49,6 @@ module _ (rd : Reading) (s : List ℕ) (shift limit at count : ℕ) (x : Call) (
       unfolding pend_of step_with
       pend_error z w = rw (← e) (rw (q, w))
 
-      pub pend_end : x.what ≡ End → ended n (record { at = x.at; count = count + x.advances; done = Ended; reading = rd }) x.gap_depth_lem ≡ pend_of s shift limit room n (running rd at count)
+      pub pend_end : x.what ≡ End → ended n (record { at = x.at; count = count + x.advances; done = Ended; reading = rd }) x.gap_depth ≡ pend_of s shift limit room n (running rd at count)
       unfolding pend_of step_with
       pend_end w = rw (← e) (rw (q, w))

@@ -91,7 +91,7 @@ group_laid l p t =
 
 -- four stores are one
 pub told-laid : (l : List ℕ) (p : ℕ) (t : Token)
-    → set (set (set (set l p (told_number t.gap_depth_lem)) (p + 1) (told_number t.code_depth_lem)) (p + 2) 18446744073709551615) (p + 3) 18446744073709551615 ≡ sets l p (told_of t)
+    → set (set (set (set l p (told_number t.gap_depth)) (p + 1) (told_number t.code_depth)) (p + 2) 18446744073709551615) (p + 3) 18446744073709551615 ≡ sets l p (told_of t)
 told-laid l p t =
     let a : p + 1 ≡ suc p = omega arith in
     let b : p + 2 ≡ suc (suc p) = omega arith in

@@ -6,7 +6,7 @@
 use Prim.Native.Nat.{ℕ, zero, suc, ◌+◌, ◌-◌, ◌<◌, ◌≤◌}
 use native.Mathlib.Omega.{arith}
 use mathlib.Core.Bool.{Bool, true, false, cond}
-use mathlib.Core.List.{List, [], ◌∷◌, ◌++◌, append-nil, append_assoc}
+use mathlib.Core.List.{List, [], ◌∷◌, ◌++◌, append-nil}
 use mathlib.Core.Path.{◌≡◌, refl, sym, ap, subst, ◌∙◌}
 use lib.Dec.{ltb}
 use lib.ListN.{length, take, drop, get_or, set, length-append}
@@ -18,22 +18,20 @@ use Rattle.record.specs.Records.{over, refusal}
 use Rattle.record.specs.declared.Checked.{Checked}
 use Rattle.record.specs.declared.Checked.TheVariants.{Passed, Refused as Stopped}
 use Rattle.record.specs.declared.Code.TheVariants.{BadRecord, NoRoom}
-use Rattle.record.specs.declared.Refusal.{Refusal}
 use Rattle.record.specs.declared.Token.{Token}
 use Rattle.reading.specs.Run.{Run, also, run, run_from, run_from_with, run_with, step, stopped}
-use Rattle.reading.specs.Story.{run_end, run_error, run_full, run_got}
+use Rattle.reading.proofs.Story.{run_end, run_error, run_full, run_got}
 use Rattle.reading.specs.declared.Outcome.{Outcome}
-use Rattle.reading.specs.declared.Outcome.TheVariants.{Ended, Refused, Running}
+use Rattle.reading.specs.declared.Outcome.TheVariants.{Refused, Running}
 use Rattle.reading.specs.declared.Tokenizer.{Tokenizer}
 use Rattle.reading.specs.declared.What.{What}
 use Rattle.reading.specs.declared.What.TheVariants.{End, Error, Got}
-use Rattle.run.specs.Checked.{count_if, ran_of, ran_with, report, run_if, whole_run, whole_run_with}
+use Rattle.run.specs.Checked.{count_if, ran_of, ran_with, run_if, whole_run, whole_run_with}
 use Rattle.run.specs.Pending.{advance_of, begin_if, begin_of, goes, halted, pend_by, pend_of}
-use Rattle.run.specs.Room.{Onward, Ready}
+use Rattle.run.specs.Room.{Onward}
 use Rattle.run.specs.Steps.{ready_of, step_ready, step-runs}
 use Rattle.run.specs.TakenUp.{before, never_running}
 use Rattle.run.specs.declared.Pending.{Pending}
-use Rattle.run.specs.declared.Ran.{Ran}
 
 no : {X : Type 0} → false ≡ true → X
 no e = let z : ◌≡◌ {A = ℕ} 0 1 = cc in absurd (omega arith)
@@ -61,7 +59,7 @@ module _ (s : List ℕ) (shift limit room : ℕ) where
     got_run k x u false q f g = let l = ltb-false n room q in g (le-ltb 0 (room - n) (omega arith))
 
     by_run : (k : ℕ) (w : What) → (step s shift limit t).what ≡ w
-        → run_from s shift limit (suc k) (room - n) t ≡ onward k (pend_by w room n t (step s shift limit t).next (step s shift limit t).gap_depth_lem)
+        → run_from s shift limit (suc k) (room - n) t ≡ onward k (pend_by w room n t (step s shift limit t).next (step s shift limit t).gap_depth)
     unfolding onward
     by_run k (Got x) e = got_run k x (step s shift limit t).next (ltb n room) refl (λ q. run_got s shift limit k (room - n) t x e q) (λ q. run_full s shift limit k (room - n) t x e q)
     by_run k (Error r) e = run_error s shift limit k (room - n) t r e
@@ -86,10 +84,10 @@ module _ (s : List ℕ) (shift limit room : ℕ) where
 
     pub pend_goes : Goes (step s shift limit t).next (pend_of s shift limit room n t)
     unfolding pend_of
-    pend_goes = by_goes (step s shift limit t).what (step s shift limit t).next (step s shift limit t).gap_depth_lem
+    pend_goes = by_goes (step s shift limit t).what (step s shift limit t).next (step s shift limit t).gap_depth
 
     -- .. and it runs
-    by_runs : (w : What) → (step s shift limit t).what ≡ w → (pend_by w room n t (step s shift limit t).next (step s shift limit t).gap_depth_lem).going ≡ true → (step s shift limit t).next.done ≡ Running
+    by_runs : (w : What) → (step s shift limit t).what ≡ w → (pend_by w room n t (step s shift limit t).next (step s shift limit t).gap_depth).going ≡ true → (step s shift limit t).next.done ≡ Running
     by_runs (Got y) e g = step-runs s shift limit t y e
     by_runs (Error r) e g = no g
     by_runs End e g = no g

@@ -30,8 +30,8 @@ module _ (call : Reading → List ℕ → ℕ → Call) where
   -- 01: "A public single call repeats the checks, then answers 20, nothing changed, for a cursor off its text's boundaries."
   abbrev pub step_if_with : Checked → List ℕ → ℕ → ℕ → Tokenizer → Stepped
   step_if_with Passed s shift limit t =
-      cond (boundary s t.at) (step_with call s shift limit t) (record { what = Error (refusal BadRecord 0); next = t; gap_depth_lem = 0 })
-  step_if_with (Stopped r) s shift limit t = record { what = Error r; next = t; gap_depth_lem = 0 }
+      cond (boundary s t.at) (step_with call s shift limit t) (record { what = Error (refusal BadRecord 0); next = t; gap_depth = 0 })
+  step_if_with (Stopped r) s shift limit t = record { what = Error r; next = t; gap_depth = 0 }
 
   unfoldable pub next_token_with : List ℕ → ℕ → ℕ → Tokenizer → Stepped
   next_token_with s shift limit t = step_if_with (checks s shift) s shift limit t

@@ -13,7 +13,7 @@ numbers_of t = kind_number t.kind ∷ t.start ∷ t.end ∷ t.payload_start ∷ 
 
 -- 02, E4: the depth of the gap before it and of its code; two further numbers are not known yet
 abbrev pub told_of : Token → List ℕ
-told_of t = told_number t.gap_depth_lem ∷ told_number t.code_depth_lem ∷ told_number Unknown ∷ told_number Unknown ∷ []
+told_of t = told_number t.gap_depth ∷ told_number t.code_depth ∷ told_number Unknown ∷ told_number Unknown ∷ []
 
 abbrev pub size_of : Group → ℕ
 size_of Five = 5

@@ -13,11 +13,9 @@ use Rattle.record.specs.declared.Token.{Token}
 use Rattle.reading.specs.Run.{step}
 use Rattle.reading.specs.declared.Outcome.{Outcome}
 use Rattle.reading.specs.declared.Outcome.TheVariants.{Ended, Refused, Running}
-use Rattle.reading.specs.declared.Stepped.{Stepped}
 use Rattle.reading.specs.declared.Tokenizer.{Tokenizer}
 use Rattle.reading.specs.declared.What.{What}
 use Rattle.reading.specs.declared.What.TheVariants.{End, Error, Got}
-use Rattle.run.specs.Checked.{count_if}
 use Rattle.run.specs.declared.Pending.{Pending}
 
 -- a tokenizer that runs
@@ -49,7 +47,7 @@ pend_by (Error r) room n t u g = halted n (Refused r) u.count u
 pend_by End room n t u g = ended n u g
 
 unfoldable pub pend_of : List ℕ → ℕ → ℕ → ℕ → ℕ → Tokenizer → Pending
-pend_of s shift limit room n t = pend_by (step s shift limit t).what room n t (step s shift limit t).next (step s shift limit t).gap_depth_lem
+pend_of s shift limit room n t = pend_by (step s shift limit t).what room n t (step s shift limit t).next (step s shift limit t).gap_depth
 
 abbrev pub begin_if : Checked → List ℕ → ℕ → ℕ → ℕ → Tokenizer → Pending
 begin_if Passed s shift limit room t = cond (boundary s t.at) (pend_of s shift limit room 0 t) (halted 0 (Refused (refusal BadRecord 0)) t.count t)

@@ -1,21 +1,20 @@
 -- What the steps of a run stand on: the checks leave room for every place, and a call stays in the text.
-use Rattle.std.specs.Prelude.{ℕ, ◌+◌, ◌-◌, ◌≤◌, ◌<◌, Bool, true, false, cond, ◌&&◌, ◌||◌, List, ◌≡◌, refl, eqb, ltb, drop, get_or, length}
-use Rattle.std.proofs.Common.{arith, sym, ap, ◌∙◌}
+use Rattle.std.specs.Prelude.{ℕ, ◌+◌, ◌-◌, ◌≤◌, ◌<◌, Bool, true, false, ◌&&◌, ◌||◌, List, ◌≡◌, refl, eqb, ltb, length}
+use Rattle.std.proofs.Common.{arith, ap, ◌∙◌}
 use Rattle.utf8.specs.Picks.{tests}
-use Rattle.utf8.specs.Utf8.{boundary, chars}
-use Rattle.record.specs.Allowed.{Allowed, allowed}
+use Rattle.utf8.specs.Utf8.{boundary}
+use Rattle.record.specs.Allowed.{allowed}
 use Rattle.record.specs.Checks.{checks}
 use Rattle.record.specs.declared.Checked.TheVariants.{Passed}
 use Rattle.record.specs.declared.Refusal.{Refusal}
 use Rattle.record.specs.declared.Token.{Token}
 use Rattle.scan.specs.Until.{left}
-use Rattle.reading.specs.Inside.{Inside, InsideIn, next-inside}
+use Rattle.reading.proofs.Inside.{Inside, InsideIn, next-inside}
 use Rattle.reading.specs.Next.{next}
 use Rattle.reading.specs.Run.{done_by, step, step_by, step_in, step_with}
-use Rattle.reading.specs.Steps.{Within, call-within}
+use Rattle.reading.proofs.Steps.{call-within}
 use Rattle.reading.specs.declared.Outcome.{Outcome}
 use Rattle.reading.specs.declared.Outcome.TheVariants.{Ended, Refused, Running}
-use Rattle.reading.specs.declared.Stepped.{Stepped}
 use Rattle.reading.specs.declared.Tokenizer.{Tokenizer}
 use Rattle.reading.specs.declared.What.{What}
 use Rattle.reading.specs.declared.What.TheVariants.{End, Error, Got}

@@ -9,15 +9,14 @@ use Rattle.std.proofs.Math.ListN.{length}
 use Rattle.record.specs.Records.{refusal}
 use Rattle.record.specs.declared.Code.TheVariants.{NoRoom}
 use Rattle.record.specs.declared.Reading.{Reading}
-use Rattle.record.specs.declared.Refusal.{Refusal}
 use Rattle.record.specs.declared.Token.{Token}
 use Rattle.scan.specs.Far.{short}
 use Rattle.scan.specs.Until.{left}
-use Rattle.reading.specs.AnyCall.{turn_end, turn_error, turn_full, turn_got}
-use Rattle.reading.specs.Ledger.{runs_out}
+use Rattle.reading.proofs.AnyCall.{turn_end, turn_error, turn_full, turn_got}
+use Rattle.reading.proofs.Ledger.{runs_out}
 use Rattle.reading.specs.Next.{next}
-use Rattle.reading.specs.Run.{Run, also, done_by, run, run_from_with, run_with, shift_what, step_by, step_in_with, step_with, stopped}
-use Rattle.reading.specs.Story.{again_end, again_error, tell}
+use Rattle.reading.specs.Run.{Run, also, done_by, run, run_from_with, run_with, shift_what, step_by, step_in_with, step_with}
+use Rattle.reading.proofs.Story.{again_end, again_error, tell}
 use Rattle.reading.specs.declared.Call.{Call}
 use Rattle.reading.specs.declared.Outcome.{Outcome}
 use Rattle.reading.specs.declared.Outcome.TheVariants.{Ended, Refused, Running}

@@ -1,4 +1,6 @@
 // Whole runs: the single call, the lent tokenizer, the lent list, the limits.
+#![tactic(auto)]
+
 ghost use Rattle.std.specs.Prelude.{◌≡◌, ◌+◌, ◌*◌, ◌/◌, ◌<◌, ◌≤◌, true, ltb, drop, length};
 ghost use Rattle.std.proofs.lemmas.List.Edits.{sets};
 ghost use Rattle.utf8.specs.Utf8.{boundary, chars};
@@ -22,7 +24,7 @@ use record::{Checked, Code, Kind, Reading, Refusal, Token};
 
 // How a run ended: how many records it stored, how it stopped, the advances, the tokenizer after it, and how deep the comments go in the gap that it
 // read before the end; 0 if it read none or stopped otherwise.
-#[derive(Drop)]
+#[derive(Clone, Copy)]
 pub struct Ran {
     pub stored: usize,
     pub how: Outcome,
@@ -32,14 +34,14 @@ pub struct Ran {
 }
 
 // How many numbers a record takes where it is laid out in numbers: the five of 01, or nine, with what a run tells besides.
-#[derive(Drop)]
+#[derive(Clone, Copy)]
 pub enum Group {
     Five,
     Nine,
 }
 
 // A token that is read and not stored yet, or, where it is not going, the end of the run.
-#[derive(Drop)]
+#[derive(Clone, Copy)]
 pub struct Pending {
     pub going: bool,
     pub token: Token,

@@ -7,7 +7,7 @@ use mathlib.Core.List.{List, [], ◌∷◌}
 use Rattle.std.proofs.Math.Path.{ap, refl, sym}
 use Rattle.utf8.specs.Chars.{'*, '/}
 use Rattle.utf8.specs.Laws.{Ended, Seen}
-use Rattle.utf8.specs.Picks.{by_test, picks}
+use Rattle.utf8.specs.Picks.{by_test}
 use Rattle.utf8.specs.Utf8.{width_of}
 use Rattle.record.specs.declared.Refusal.{Refusal}
 use Rattle.scan.specs.Depth.{comment_depth, cover_depth, deeper, deepest, depth_from, slash_depth}

@@ -5,7 +5,8 @@ use native.Mathlib.Omega.{arith}
 use Rattle.std.proofs.Math.Bool.{false, true}
 use mathlib.Core.List.{List, [], ◌∷◌}
 use Rattle.std.proofs.Math.Path.{◌≡◌, refl}
-use Rattle.utf8.specs.Laws.{Seen, ended, seen}
+use Rattle.utf8.proofs.Laws.{seen}
+use Rattle.utf8.specs.Laws.{Seen, ended}
 use Rattle.utf8.specs.Utf8.{chars, sight_at, width_of}
 use Rattle.utf8.specs.declared.Sight.{Sight}
 use Rattle.utf8.specs.declared.Sight.TheVariants.{Char, End}

@@ -3,7 +3,8 @@ use Rattle.std.specs.Prelude.{◌<◌, ℕ, Bool, List, [], ◌∷◌, refl, eqb
 use Rattle.std.proofs.Common.{arith, ◌∙◌, sym}
 use Rattle.std.proofs.Math.Bool.{cond, false, true}
 use Rattle.std.proofs.Math.Path.{◌≡◌}
-use Rattle.utf8.specs.Laws.{Ended, Seen, ended, seen}
+use Rattle.utf8.proofs.Laws.{seen}
+use Rattle.utf8.specs.Laws.{Ended, Seen, ended}
 use Rattle.utf8.specs.Picks.{same}
 use Rattle.utf8.specs.Utf8.{sight_at}
 use Rattle.utf8.specs.declared.Sight.{Sight}

@@ -10,7 +10,6 @@ use Rattle.utf8.specs.Utf8.{width_of}
 use Rattle.record.specs.Records.{refusal}
 use Rattle.record.specs.declared.Code.{Code}
 use Rattle.record.specs.declared.Code.TheVariants.{UnterminatedBlockComment, UnterminatedStringLiteral}
-use Rattle.record.specs.declared.Refusal.{Refusal}
 use Rattle.scan.specs.Far.{Far, after}
 use Rattle.scan.specs.IfNext.{if_next}
 use Rattle.scan.specs.Readers.{comment_end, reg_done, reg_step, regex_end, string_end}

@@ -5,11 +5,12 @@ use Rattle.std.proofs.Common.{arith, ◌∙◌, ap, sym, drop_of_length-le, add-
 use Rattle.std.proofs.Math.Seq.{drop-cons}
 use Rattle.std.proofs.lemmas.Bool.{eqb-false, lt-leb}
 use Rattle.utf8.specs.Chars.{'#, '*, '/, 'backslash, 'dquote}
-use Rattle.utf8.specs.Laws.{Seen, seen, sight_ascii}
+use Rattle.utf8.proofs.Laws.{seen}
+use Rattle.utf8.specs.Laws.{Seen, sight_ascii}
 use Rattle.utf8.specs.Picks.{picks}
-use Rattle.unicode_xid.specs.Identifier.{ascii_continue, is_identifier_continue}
+use Rattle.unicode_xid.specs.Identifier.{ascii_continue}
 use Rattle.unicode_xid.proofs.Ascii.{ascii_continue_lem}
-use Rattle.scan.specs.Readers.{com_done, com_step, comment_end, reg_done, reg_step, regex_end, str_done, str_step, string_end}
+use Rattle.scan.specs.Readers.{com_step, reg_done, reg_step, regex_end, str_done, str_step, string_end}
 use Rattle.scan.specs.Seek.{seek, seek_done, seek_step, stop_at}
 use Rattle.scan.specs.Until.{left, until, until-on}
 use Rattle.scan.specs.declared.Com.TheVariants.{Open}

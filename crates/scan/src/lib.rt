@@ -1,5 +1,7 @@
 // Readers with no reader inside: the Rust's `take_until` and its family, a loop for each closure that it is given. Each goes over the
 // characters from a place, and answers the place of the character that ends what it reads, with the number of characters passed.
+#![tactic(auto)]
+
 mod runs;
 
 ghost use Rattle.std.specs.Prelude.{◌≡◌, true, false, ℕ, ◌≤◌, ◌+◌, ◌-◌, ◌<◌, length, drop};
@@ -16,14 +18,14 @@ ghost use Rattle.scan.specs.Walk.{turn_of};
 use record::{Code, Refusal};
 use utf8::{Sight, signs};
 
-#[derive(Drop)]
+#[derive(Clone, Copy)]
 pub enum Found {
     At { place: usize, passed: usize },
     Nothing { place: usize, passed: usize },
 }
 
 // What a run of characters stops at: the closures without a state.
-#[derive(Drop)]
+#[derive(Clone, Copy)]
 pub enum Sought {
     Newline,
     Quote,
@@ -33,14 +35,14 @@ pub enum Sought {
 }
 
 // What a reader passes: up to a place, with a number of characters; or a refusal, with the cursor and the characters passed till then.
-#[derive(Drop)]
+#[derive(Clone, Copy)]
 pub enum Skip {
     Past(usize, usize),
     Lost(Refusal, usize, usize),
 }
 
 // What a character does to a walk: it ends it; what it starts is refused; or it goes on at a place, characters passed, in a state.
-#[derive(Drop)]
+#[derive(Clone, Copy)]
 pub enum Turn {
     Stop,
     Fail(Refusal, usize, usize),
@@ -48,21 +50,21 @@ pub enum Turn {
 }
 
 // What a reader of characters that may hold block comments passes, and the greatest depth of those.
-#[derive(Drop)]
+#[derive(Clone, Copy)]
 pub struct Deep {
     pub skip: Skip,
     pub depth: usize,
 }
 
 // What a character does to a walk, and the greatest depth of the block comment that it starts; 0 if it starts none.
-#[derive(Drop)]
+#[derive(Clone, Copy)]
 pub struct Turned {
     pub turn: Turn,
     pub depth: usize,
 }
 
 // What a string's reader knows: the Rust's `escape` in `string_or_char_literal`.
-#[derive(Drop)]
+#[derive(Clone, Copy)]
 pub enum Str {
     Plain,
     Escaped,
@@ -129,7 +131,7 @@ pub fn string_end(s: &[u8], from: usize, quote: u32) -> Found
 }
 
 // What a block comment's reader knows: how deep it is, and whether a slash or a star came last (`State` in `block_comment`).
-#[derive(Drop)]
+#[derive(Clone, Copy)]
 pub enum Com {
     Open { depth: usize },
     Slash { depth: usize },
@@ -222,7 +224,7 @@ fn com_run(s: &[u8], at: usize, st: Com) -> usize
 }
 
 // What a block comment's reader answers: its end, and how many comments were open at most.
-#[derive(Drop)]
+#[derive(Clone, Copy)]
 pub struct Commented {
     pub end: Found,
     pub depth: usize,

@@ -1,1 +1,3 @@
 pub mod Telling
+-- the sheet's books
+pub mod Theorems

@@ -20,9 +20,10 @@ use Rattle.scan.specs.Until.{left}
 use Rattle.scan.specs.Walk.{walk_from}
 use Rattle.scan.specs.declared.Skip.TheVariants.{Lost, Past}
 use Rattle.scan.specs.declared.Turn.TheVariants.{Pass, Stop}
-use Rattle.reading.specs.Gaps.{comment_turn, gap, gap_depth, gap_last, gap_turn}
+use Rattle.reading.specs.Gaps.{comment_turn, gap, gap_depth_of, gap_last, gap_turn}
 use Rattle.reading.specs.Passes.{gap_sound}
-use Rattle.reading.specs.Steps.{gap_level, gap-over, gap_pass, gap-run, gap-state, gap_stop, level_run, over_level, run_done}
+use Rattle.reading.proofs.Steps.{gap-over, gap-run, level_run, over_level, run_done}
+use Rattle.reading.specs.Steps.{gap_level, gap_pass, gap-state, gap_stop}
 use Rattle.sheet.specs.Apart.{apart, comments, whites}
 use Rattle.sheet.specs.ApartLaws.{comment_told, none-counts, white_counts}
 use Rattle.sheet.specs.declared.Gap.TheVariants.{Blank, Open}
@@ -31,7 +32,7 @@ use Rattle.sheet.specs.declared.Gap.TheVariants.{Blank, Open}
 pub record Reached (s : List ℕ) (from at w k d : ℕ) : Type 0 where
   pub walked : walk_from gap_turn gap_last 0 (left s at) 0 at (w + k) ≡ gap (left s from) from
   pub counted : (j : ℕ) → comments (take (w + k + j) (left s from)) ≡ k + comments (take j (left s at))
-  pub deep : depth_from gap_turn 0 (left s at) 0 at d ≡ gap_depth (left s from) from
+  pub deep : depth_from gap_turn 0 (left s at) 0 at d ≡ gap_depth_of (left s from) from
 
 pub start : (s : List ℕ) (from : ℕ) → Reached s from from 0 0 0
 unfolding gap
@@ -87,7 +88,7 @@ module _ {s : List ℕ} {from at w k d c v p m b : ℕ} (h : Reached s from at w
   on : walk_from gap_turn gap_last 0 (left s p) 0 p (w + k + 1 + m) ≡ gap (left s from) from
   on = gap-state 0 (left s p) 0 b p (w + k + 1 + m) ∙ sym (walk_pass gap_turn gap_last g 0 (w + k) e far) ∙ h.walked
 
-  down : depth_from gap_turn 0 (left s p) 0 p (deeper d (cover_depth c (left s (at + v)))) ≡ gap_depth (left s from) from
+  down : depth_from gap_turn 0 (left s p) 0 p (deeper d (cover_depth c (left s (at + v)))) ≡ gap_depth_of (left s from) from
   down = gap_level 0 (left s p) 0 b p (deeper d (cover_depth c (left s (at + v)))) ∙ sym (depth_pass gap_turn g 0 d e far) ∙ h.deep
 
   more : (i : ℕ) → comments (take (w + k + suc i) (left s from)) ≡ k + comments (c ∷ take i (left s (at + v)))
@@ -126,7 +127,7 @@ module _ {s : List ℕ} {from at w k d : ℕ} (h : Reached s from at w k d) wher
       let z : w + k + 0 ≡ w + k = omega arith in
       let c : comments (take (w + k) (left s from)) ≡ k = omega (arith, rw z at (h.counted 0), none-counts) in
       let u : w + k - k ≡ w = omega arith in
-      let v : gap_depth (left s from) from ≡ d = sym h.deep ∙ y in
+      let v : gap_depth_of (left s from) from ≡ d = sym h.deep ∙ y in
       rw (e, c, length-take-le (w + k) (left s from) f.within, u, v)
 
   pub told_lost : {r : Refusal} {p m : ℕ} → walk_from gap_turn gap_last 0 (left s at) 0 at (w + k) ≡ Lost r p m → Open r m ≡ apart (left s from) from

@@ -116,7 +116,7 @@ depth_in (Is n) = n
 depth_in Unknown = 0
 
 abbrev pub token_depth : Token → ℕ
-token_depth t = deeper (depth_in t.gap_depth_lem) (depth_in t.code_depth_lem)
+token_depth t = deeper (depth_in t.gap_depth) (depth_in t.code_depth)
 
 -- that the tokens tell, where it was d before them
 unfoldable pub depth_over : List Token → ℕ → ℕ

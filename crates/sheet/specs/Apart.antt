@@ -6,7 +6,7 @@ use Rattle.scan.specs.IfNext.{if_next}
 use Rattle.scan.specs.declared.Skip.{Skip}
 use Rattle.scan.specs.declared.Skip.TheVariants.{Lost, Past}
 use Rattle.reading.specs.Blank.{is_mark}
-use Rattle.reading.specs.Gaps.{gap, gap_depth}
+use Rattle.reading.specs.Gaps.{gap, gap_depth_of}
 use Rattle.sheet.specs.declared.Gap.{Gap}
 use Rattle.sheet.specs.declared.Gap.TheVariants.{Blank, Open}
 
@@ -52,4 +52,4 @@ apart_by cs (Past p m) d = Blank p (whites (take m cs)) (comments (take m cs)) d
 apart_by cs (Lost r p m) d = Open r m
 
 unfoldable pub apart : List ℕ → ℕ → Gap
-apart cs at = apart_by cs (gap cs at) (gap_depth cs at)
+apart cs at = apart_by cs (gap cs at) (gap_depth_of cs at)

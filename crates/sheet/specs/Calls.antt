@@ -7,7 +7,8 @@ use Rattle.std.proofs.Math.Path.{◌≡◌, ap, refl, sym}
 use Rattle.std.proofs.Math.Dec.{ltb}
 use Rattle.std.proofs.Math.ListN.{length, take}
 use Rattle.std.proofs.Math.Seq.{length-take-le, take-length}
-use Rattle.utf8.specs.Laws.{bounded, valid_whole}
+use Rattle.utf8.proofs.Laws.{bounded}
+use Rattle.utf8.specs.Laws.{valid_whole}
 use Rattle.utf8.specs.Utf8.{boundary}
 use Rattle.record.specs.Allowed.{allowed}
 use Rattle.record.specs.Checks.{checks}
@@ -27,15 +28,16 @@ use Rattle.scan.specs.Until.{left}
 use Rattle.scan.specs.declared.Skip.{Skip}
 use Rattle.scan.specs.declared.Skip.TheVariants.{Lost, Past}
 use Rattle.reading.specs.Answers.{more, told, told_token, told_what}
-use Rattle.reading.specs.CallLaw.{LaidIn, Placed, next-laid}
-use Rattle.reading.specs.Gaps.{gap, gap_depth}
+use Rattle.reading.proofs.CallLaw.{LaidIn, Placed, next-laid}
+use Rattle.reading.specs.Gaps.{gap, gap_depth_of}
 use Rattle.reading.specs.Measures.{tail_of}
 use Rattle.reading.specs.Next.{next, token_or_end}
 use Rattle.reading.specs.Passes.{gap_sound}
 use Rattle.reading.specs.Run.{Run, also, ending, run_from, run_with, shift_token, step, step_by, step_with, stopped}
-use Rattle.reading.specs.Steps.{call-within, next-gap, next_lost}
-use Rattle.reading.specs.Story.{run_end, run_error, run_got}
-use Rattle.reading.specs.Sums.{placed_far, placed_length}
+use Rattle.reading.proofs.Steps.{call-within}
+use Rattle.reading.specs.Steps.{next-gap, next_lost}
+use Rattle.reading.proofs.Story.{run_end, run_error, run_got}
+use Rattle.reading.proofs.Sums.{placed_far, placed_length}
 use Rattle.reading.specs.declared.Call.{Call}
 use Rattle.reading.specs.declared.Outcome.{Outcome}
 use Rattle.reading.specs.declared.Outcome.TheVariants.{Ended, Refused, Running}
@@ -45,7 +47,8 @@ use Rattle.reading.specs.declared.What.{What}
 use Rattle.reading.specs.declared.What.TheVariants.{End, Error, Got}
 use Rattle.run.specs.Checked.{whole_run_with}
 use Rattle.run.specs.Pending.{running}
-use Rattle.ledger.specs.Answered.{SaysIn, next_says}
+use Rattle.ledger.proofs.Answered.{next_says}
+use Rattle.ledger.specs.Answered.{SaysIn}
 use Rattle.ledger.specs.Levels.{last-told, next_small}
 use Rattle.ledger.specs.Small.{gap-small}
 use Rattle.sheet.specs.Adds.{between, beyond, depth_in, depth_over, dropped_after, drops, empty_sheet, enter, entered, failed_in, fails, gap_entered, greatest, in_comments, in_tokens, in_whitespace, sheet_size, story, token_depth, token_entered, work_limit}
@@ -78,19 +81,19 @@ module _ (s : List ℕ) (at count : ℕ) where
   call-is = refl
 
   -- the call would take the advances above the limit
-  pub call_limit : ltb work_limit (count + reads.advances) ≡ true → call_of s at count ≡ record { what = Error (refusal WorkLimit at); next = running Old at count; gap_depth_lem = 0 }
+  pub call_limit : ltb work_limit (count + reads.advances) ≡ true → call_of s at count ≡ record { what = Error (refusal WorkLimit at); next = running Old at count; gap_depth = 0 }
   call_limit q = let a : at + 0 ≡ at = omega arith in call-is ∙ rw (q, a)
 
   module _ (q : ltb work_limit (count + reads.advances) ≡ false) where
-    pub call_got : (t : Token) → reads.what ≡ Got t → call_of s at count ≡ record { what = Got t; next = running Old reads.at (count + reads.advances); gap_depth_lem = reads.gap_depth_lem }
+    pub call_got : (t : Token) → reads.what ≡ Got t → call_of s at count ≡ record { what = Got t; next = running Old reads.at (count + reads.advances); gap_depth = reads.gap_depth }
     call_got t e = call-is ∙ rw (q, e, shift_token_lem t)
 
     pub call_error : (r : Refusal) → reads.what ≡ Error r
-        → call_of s at count ≡ record { what = Error r; next = record { at = reads.at; count = count + reads.advances; done = Refused r; reading = Old }; gap_depth_lem = reads.gap_depth_lem }
+        → call_of s at count ≡ record { what = Error r; next = record { at = reads.at; count = count + reads.advances; done = Refused r; reading = Old }; gap_depth = reads.gap_depth }
     call_error r e = call-is ∙ rw (q, e, shift_refusal r)
 
     pub call-end : reads.what ≡ End
-        → call_of s at count ≡ record { what = End; next = record { at = reads.at; count = count + reads.advances; done = Ended; reading = Old }; gap_depth_lem = reads.gap_depth_lem }
+        → call_of s at count ≡ record { what = End; next = record { at = reads.at; count = count + reads.advances; done = Ended; reading = Old }; gap_depth = reads.gap_depth }
     call-end e = call-is ∙ rw (q, e)
 
     pub read_got : (t : Token) → reads.what ≡ Got t
@@ -105,7 +108,7 @@ module _ (s : List ℕ) (at count : ℕ) where
     read_error r e = (rw (call_error r e), λ row. rw (call_error r e))
 
     pub read-end : reads.what ≡ End
-        → (read_of s at count ≡ record { going = false; at = 0; advances = count + reads.advances; deep = reads.gap_depth_lem; how = Ended })
+        → (read_of s at count ≡ record { going = false; at = 0; advances = count + reads.advances; deep = reads.gap_depth; how = Ended })
         × ((row : List ℕ) → row_of s at count row ≡ gap_entered (left s at) row)
     unfolding read_of row_of
     read-end e = (rw (call-end e), λ row. rw (call-end e))
@@ -127,13 +130,13 @@ module _ (s : List ℕ) (at count : ℕ) where
   unfolding apart between
   gapped p w c d e = go (gap (left s at) at) refl e
     where
-      go : (x : Skip) → gap (left s at) at ≡ x → apart_by (left s at) x (gap_depth (left s at) at) ≡ Blank p w c d → Gapped p w c d
+      go : (x : Skip) → gap (left s at) at ≡ x → apart_by (left s at) x (gap_depth_of (left s at) at) ≡ Blank p w c d → Gapped p w c d
       go (Past q m) g z =
           let a : q ≡ p = cc in
           let f : Far (left s at) at m p = (rw (g ∙ ap (λ (j : ℕ). Past j m) a) at (gap_sound (left s at) at)).is in
           let u : whites (take m (left s at)) ≡ w = cc in
           let v : comments (take m (left s at)) ≡ c = cc in
-          let n : gap_depth (left s at) at ≡ d = cc in
+          let n : gap_depth_of (left s at) at ≡ d = cc in
           let k : w + c ≡ m = omega (arith, whites-comments (take m (left s at)), length-take-le m (left s at) f.within, u, v) in
           let b = up_to_far (left s at) at m p f in
           record { gap_is = rw (k, ← a) g; far = rw k f; goes_on = rw (k, ← n) (next-gap Old s at p m (rw (← a) g)); white_is = rw b u; comment_is = rw b v }
@@ -158,7 +161,7 @@ module _ (s : List ℕ) (at count : ℕ) where
   unfolding apart
   opened r m e = go (gap (left s at) at) refl e
     where
-      go : (x : Skip) → gap (left s at) at ≡ x → apart_by (left s at) x (gap_depth (left s at) at) ≡ Open r m → (reads.what ≡ Error r) × (reads.advances ≡ m)
+      go : (x : Skip) → gap (left s at) at ≡ x → apart_by (left s at) x (gap_depth_of (left s at) at) ≡ Open r m → (reads.what ≡ Error r) × (reads.advances ≡ m)
       go (Past q n) g z = let k : ◌≡◌ {A = ℕ} 0 1 = cc in absurd (omega arith)
       go (Lost r' q n) g z =
           let a : r' ≡ r = cc in
@@ -283,9 +286,9 @@ module _ (s : List ℕ) (at count : ℕ) (row : List ℕ) (g : Going s at count 
   unfolding call_of
   step-next e = ap (λ (z : Stepped). z.next) e
 
-  step-deep : {r : Stepped} → call_of s at count ≡ r → (step s 0 work_limit (running Old at count)).gap_depth_lem ≡ r.gap_depth_lem
+  step-deep : {r : Stepped} → call_of s at count ≡ r → (step s 0 work_limit (running Old at count)).gap_depth ≡ r.gap_depth
   unfolding call_of
-  step-deep e = ap (λ (z : Stepped). z.gap_depth_lem) e
+  step-deep e = ap (λ (z : Stepped). z.gap_depth) e
 
   -- there is a call left
   some-call : (P : ℕ → Type 0) → ((k : ℕ) → g.calls ≡ suc k → P (suc k)) → P g.calls
@@ -315,7 +318,7 @@ module _ (s : List ℕ) (at count : ℕ) (row : List ℕ) (g : Going s at count 
     pub low-over : d ≤ 0x7FFFFFFF
     pub code-over : TalliedIn how
 
-  over_error : (z : Refusal) (u : Tokenizer) (h : ℕ) → call_of s at count ≡ record { what = Error z; next = u; gap_depth_lem = h } → u.count ≤ work_limit → is_tallied z.code ≡ true
+  over_error : (z : Refusal) (u : Tokenizer) (h : ℕ) → call_of s at count ≡ record { what = Error z; next = u; gap_depth = h } → u.count ≤ work_limit → is_tallied z.code ≡ true
       → Over (Refused z) u.count (deeper g.deep 0) row
   over_error z u h e m k =
       let f : run_from s 0 work_limit g.calls g.room (running Old at count) ≡ stopped (Refused z) u =
@@ -333,7 +336,7 @@ module _ (s : List ℕ) (at count : ℕ) (row : List ℕ) (g : Going s at count 
         code-over = k;
       }
 
-  over-end : (u : Tokenizer) (h : ℕ) → call_of s at count ≡ record { what = End; next = u; gap_depth_lem = h } → u.count ≤ work_limit → h ≤ 0x7FFFFFFF
+  over-end : (u : Tokenizer) (h : ℕ) → call_of s at count ≡ record { what = End; next = u; gap_depth = h } → u.count ≤ work_limit → h ≤ 0x7FFFFFFF
       → Over Ended u.count (deeper g.deep h) (gap_entered (left s at) row)
   unfolding entered depth_over
   over-end u h e m b =
@@ -354,7 +357,7 @@ module _ (s : List ℕ) (at count : ℕ) (row : List ℕ) (g : Going s at count 
         code-over = tt;
       }
 
-  end_low : x.what ≡ End → x.gap_depth_lem ≤ 0x7FFFFFFF
+  end_low : x.what ≡ End → x.gap_depth ≤ 0x7FFFFFFF
   end_low e = let k = fits s at in rw (last-told Old s at e) (omega (arith, gap-small (left s at) at, k, g.small))
 
   -- a token
@@ -380,7 +383,7 @@ module _ (s : List ℕ) (at count : ℕ) (row : List ℕ) (g : Going s at count 
     token-low =
         let (a, b, p, q) = next_small Old (left s at) at t e in
         let k = fits s at in
-        rw (p, q) (least x.gap_depth_lem x.code_depth_lem 0x7FFFFFFF (omega (arith, a, k, g.small)) (omega (arith, b, k, g.small)))
+        rw (p, q) (least x.gap_depth x.code_depth 0x7FFFFFFF (omega (arith, a, k, g.small)) (omega (arith, b, k, g.small)))
 
     on : (q : ltb work_limit (count + x.advances) ≡ false)
         → (i : Going s x.at (count + x.advances) (token_entered s t (gap_entered (between s at t.start) row))) × (i.deep ≡ deeper g.deep (token_depth t))
@@ -390,7 +393,7 @@ module _ (s : List ℕ) (at count : ℕ) (row : List ℕ) (g : Going s at count 
         l : length (between s at t.start) + length (between s t.start t.end) + drops s t + length (left s x.at) ≡ length (left s at)
         l = sizes s at t e
 
-        h : call_of s at count ≡ record { what = Got t; next = running Old x.at (count + x.advances); gap_depth_lem = x.gap_depth_lem }
+        h : call_of s at count ≡ record { what = Got t; next = running Old x.at (count + x.advances); gap_depth = x.gap_depth }
         h = call_got s at count q t e
 
         go : (n : ℕ) → g.calls ≡ n
@@ -482,25 +485,25 @@ module _ (s : List ℕ) (at count : ℕ) (row : List ℕ) (g : Going s at count 
     test : ltb work_limit (count + (next Old (left s at) at).advances) ≡ false
     test = le-ltb work_limit (count + (next Old (left s at) at).advances) (omega (arith, l, total-is))
 
-    what_is : (x : What) → y.what ≡ x → (next Old (left s at) at).what ≡ told_what d y.code_depth_lem x
+    what_is : (x : What) → y.what ≡ x → (next Old (left s at) at).what ≡ told_what d y.code_depth x
     unfolding more told
-    what_is x q = ap (λ (z : Call). z.what) whole ∙ ap (told_what d y.code_depth_lem) q
+    what_is x q = ap (λ (z : Call). z.what) whole ∙ ap (told_what d y.code_depth) q
 
     at-is : (next Old (left s at) at).at ≡ y.at
     unfolding more told
     at-is = ap (λ (z : Call). z.at) whole
 
-    deep_is : (next Old (left s at) at).gap_depth_lem ≡ d
+    deep_is : (next Old (left s at) at).gap_depth ≡ d
     unfolding told
-    deep_is = ap (λ (z : Call). z.gap_depth_lem) whole
+    deep_is = ap (λ (z : Call). z.gap_depth) whole
 
     pub after_got : (t : Token) → y.what ≡ Got t
-        → (record { going = true; at = y.at; advances = count + (w + c + y.advances); deep = deeper d y.code_depth_lem; how = Running } ≡ read_of s at count)
+        → (record { going = true; at = y.at; advances = count + (w + c + y.advances); deep = deeper d y.code_depth; how = Running } ≡ read_of s at count)
         × ((to : List ℕ) → to ≡ enter failed_in (part_of s t).failed (enter dropped_after (part_of s t).dropped (enter in_tokens (part_of s t).width (enter (kind_number t.kind) 1 (enter in_comments c (enter in_whitespace w row)))))
         → to ≡ row_of s at count row)
     unfolding part_of token_entered
     after_got t q =
-        let z = read_got s at count test (told_token d y.code_depth_lem t) (what_is (Got t) q) in
+        let z = read_got s at count test (told_token d y.code_depth t) (what_is (Got t) q) in
         let b : t.start ≡ p = token-start s p t y.at y.advances (delivers t q) in
         (rw (← total-is, ← at-is) (sym z.0), λ to f. f ∙ sym (z.1 row ∙ rw (b, gap-entered s at count p w c d h row)))
 

@@ -1,4 +1,4 @@
--- WHICH CODES COME OUT of a sheet: 11, 12, 14, 20 and 21 where a text is refused; 2, 5, 6, 8, 9, 10, 15, 22 and 23 are tallied (`text_tallied`, Theorems).
+-- WHICH CODES COME OUT of a sheet: 11, 12, 14, 20 and 21 where a text is refused; 2, 5, 6, 8, 9, 10, 15, 22 and 23 are tallied (`text_tallied`, proofs/Theorems.antt).
 use Rattle.std.specs.Prelude.{ℕ, Bool, List, [], ◌∷◌, ◌≡◌, get_or, length}
 use Rattle.std.proofs.Common.{arith}
 use Rattle.std.proofs.Math.Bool.{false, true}

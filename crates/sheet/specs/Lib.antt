@@ -1,9 +1,8 @@
--- what a reader must believe
+-- what a reader must believe; the theorems about it stand in proofs/Theorems.antt
 pub mod Apart
 pub mod Adds
 pub mod Sheet
 pub mod Totals
-pub mod Theorems
 pub mod Codes
 pub mod Told
 -- laws that lead there, and those that the code cites

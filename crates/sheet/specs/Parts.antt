@@ -21,8 +21,10 @@ use Rattle.scan.specs.Near.{wide}
 use Rattle.scan.specs.Until.{left}
 use Rattle.reading.specs.Answers.{deliver, more, plain}
 use Rattle.reading.specs.Attribute.{attempt, attribute_token, dropped, hash, hash_by}
-use Rattle.reading.specs.CallLaw.{Stands, Tried, attempt_tried, token-or-end-stands}
-use Rattle.reading.specs.Calls.{SpanIn, Taken, plain-taken}
+use Rattle.reading.proofs.CallLaw.{Stands, token-or-end-stands}
+use Rattle.reading.specs.CallLaw.{Tried, attempt_tried}
+use Rattle.reading.proofs.Calls.{plain-taken}
+use Rattle.reading.specs.Calls.{SpanIn, Taken}
 use Rattle.reading.specs.Next.{starts, token, token_or_end}
 use Rattle.reading.specs.Symbols.{single, singles}
 use Rattle.reading.specs.declared.Attempt.{Attempt}
@@ -41,7 +43,7 @@ pub record Delivers (x : Call) (t : Token) (to n : ℕ) : Type 0 where
   pub spent-is : x.advances ≡ n
 
 delivered : (x : Call) (t : Token) (to n : ℕ) → Delivers x t to n
-    → x ≡ record { what = Got t; at = to; advances = n; gap_depth_lem = x.gap_depth_lem; code_depth_lem = x.code_depth_lem }
+    → x ≡ record { what = Got t; at = to; advances = n; gap_depth = x.gap_depth; code_depth = x.code_depth }
 delivered x t to n z = rw (← z.what_is, ← z.at-is, ← z.spent-is)
 
 -- as the code finds it: the token's call went to `to` after n advances

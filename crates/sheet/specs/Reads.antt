@@ -29,7 +29,7 @@ read_by (Error r) u g = record { going = false; at = 0; advances = u.count; deep
 read_by End u g = record { going = false; at = 0; advances = u.count; deep = g; how = Ended }
 
 unfoldable pub read_of : List ℕ → ℕ → ℕ → Read
-read_of s at count = read_by (call_of s at count).what (call_of s at count).next (call_of s at count).gap_depth_lem
+read_of s at count = read_by (call_of s at count).what (call_of s at count).next (call_of s at count).gap_depth
 
 -- what it enters: an error nothing
 abbrev pub row_by : List ℕ → ℕ → What → List ℕ → List ℕ

@@ -4,7 +4,7 @@ use Rattle.std.proofs.Common.{arith, length-append, length-take-le}
 use Rattle.scan.specs.Far.{Far}
 use Rattle.scan.specs.declared.Skip.TheVariants.{Past}
 use Rattle.reading.specs.Blank.{Blank, block, line, nothing, white}
-use Rattle.reading.specs.Blanks.{gap-blank}
+use Rattle.reading.proofs.Blanks.{gap-blank}
 use Rattle.reading.specs.Gaps.{gap}
 use Rattle.reading.specs.Passes.{gap_sound}
 use Rattle.sheet.specs.Apart.{comments, whites}

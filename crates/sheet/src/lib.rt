@@ -1,4 +1,6 @@
 // A sheet of totals that takes texts one after another: what hundreds of grammars hold.
+#![tactic(auto)]
+
 mod alone;
 pub mod gaps;
 
@@ -28,7 +30,7 @@ const TALLIES: usize = 64;
 const MOST_TEXTS: u64 = 1024;
 
 // What became of a text: it was read to its end, or its error was tallied; or it was refused, and nothing changed.
-#[derive(Drop)]
+#[derive(Clone, Copy)]
 pub enum Taken {
     Whole,
     Tallied(Refusal),
@@ -37,14 +39,14 @@ pub enum Taken {
 
 // Where a gap ends, how many of its characters are whitespace and how many are of comments, and how deep its comments go; or a comment that does not end,
 // with the advances.
-#[derive(Drop)]
+#[derive(Clone, Copy)]
 pub enum Gap {
     Blank(usize, usize, usize, usize),
     Open(Refusal, usize),
 }
 
 // What a token adds besides one of its kind: its characters, what is dropped after it, the attempt that failed at its place.
-#[derive(Drop)]
+#[derive(Clone, Copy)]
 pub struct Part {
     pub width: u64,
     pub dropped: u64,
@@ -52,7 +54,7 @@ pub struct Part {
 }
 
 // Where a call of a text leads, with the advances so far; or, where it is not going, how the text ended. Beside it how deep the comments go.
-#[derive(Drop)]
+#[derive(Clone, Copy)]
 pub struct Read {
     pub going: bool,
     pub at: usize,

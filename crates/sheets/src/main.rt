@@ -1,19 +1,15 @@
 // The program behind the command `sheet`: its first argument is the command's name, the others are files. It reads one after another into one
 // buffer, has each taken onto a sheet, and writes the table; all that talks to the system stands here.
+#![tactic(auto)]
+
 ghost use Rattle.std.specs.Prelude.{◌≡◌, length};
 
-use libc::{STDERR_FILENO, STDOUT_FILENO};
+use std::io;
+use std::io::{Error, ErrorKind, Read, Write};
 use text::Came;
 
-// What a read came to: a number of bytes, none at the end; or the system refused it.
-#[derive(Drop)]
-enum Read {
-    Bytes(usize),
-    Fault,
-}
-
 // How it goes on after a file: it was refused, or not; or nothing can be said any more, and the program stops.
-#[derive(Drop)]
+#[derive(Clone, Copy)]
 enum Went {
     On,
     Refused,
@@ -21,14 +17,11 @@ enum Went {
 }
 
 // How many files were refused so far, and whether to go on.
-#[derive(Drop)]
+#[derive(Clone, Copy)]
 struct Done {
     refused: u64,
     on: bool,
 }
-
-// How often a read that a signal interrupted is tried again.
-const TRIES: u32 = 1000000;
 
 const HIGHEST: u64 = 18446744073709551615;
 
@@ -52,75 +45,51 @@ fn empty_sheet() -> [u64; 96]
     [0; 96]
 }
 
-// One read; one that a signal interrupted is tried again.
-fn read_once(fd: i32, buf: &mut [u8]) -> Read {
-    let mut left = TRIES;
-    while 0 < left {
-        let got = libc::read(fd, buf);
-        if 0 <= got {
-            return Read::Bytes(io::count(got, buf));
-        }
-        if os::errno() != libc::EINTR {
-            return Read::Fault;
-        }
-        left -= 1;
-    }
-    Read::Fault
-}
-
-// Reads until the buffer is full or the file ends.
-fn read_all(fd: i32, buf: &mut [u8]) -> Read {
-    let mut n: usize = 0;
-    while n < buf.len() {
-        match read_once(fd, &mut buf[n..]) {
-            Read::Fault => {
-                return Read::Fault;
-            }
-            Read::Bytes(k) => {
-                if k == 0 {
-                    return Read::Bytes(n);
-                }
-                if buf.len() - n < k {
-                    return Read::Fault;
-                }
-                n += k;
-            }
-        }
-    }
-    Read::Bytes(n)
+// What cannot be written to standard error is let go.
+fn tell(rt: &HostRuntime, words: &[u8]) {
+    let _ = system::write_whole(&mut rt.stderr(), words);
 }
 
 // A line on standard error: what a fault of the system, or a wrong call, is said with begins with `teyk: `.
-fn wrong(what: &[u8], why: &[u8]) {
-    io::write_all(STDERR_FILENO, b"teyk: ");
-    io::write_all(STDERR_FILENO, what);
-    io::write_all(STDERR_FILENO, why);
+fn wrong(rt: &HostRuntime, what: &[u8], why: &[u8]) {
+    tell(rt, b"teyk: ");
+    tell(rt, what);
+    tell(rt, why);
 }
 
-fn fault(what: &[u8]) {
-    io::write_all(STDERR_FILENO, b"teyk: ");
-    os::fail(what);
+fn fault(rt: &HostRuntime, what: &[u8], why: Error) {
+    tell(rt, b"teyk: ");
+    system::fail(&rt.stderr(), what, why);
 }
 
-// Writes the bytes that were put; answers whether all of them were written.
-fn write_came(fd: i32, bytes: &[u8], came: Came) -> bool {
+// Standard output takes no more.
+fn unwritten(rt: &HostRuntime, why: Error) {
+    if why.kind() == ErrorKind::BrokenPipe {
+        wrong(rt, b"standard output", b": nobody reads it any more\n");
+        return;
+    }
+    fault(rt, b"standard output", why);
+}
+
+// Writes the bytes that were put; what had no room cannot be written.
+fn write_came<W: Write>(to: &mut W, bytes: &[u8], came: Came) -> io::Result<()> {
     match came {
-        Came::Full => false,
+        Came::Full => Err(Error::from(ErrorKind::WriteZero)),
         Came::To(n) => {
             if bytes.len() < n {
-                return false;
+                return Err(Error::from(ErrorKind::WriteZero));
             }
-            io::write_all(fd, &bytes[..n])
+            system::write_whole(to, &bytes[..n])
         }
     }
 }
 
 // A text is taken onto the sheet, and what is said of it is written.
-fn take_text(name: &[u8], text: &[u8], sheet: &mut [u64]) -> Went {
+fn take_text(rt: &HostRuntime, name: &[u8], text: &[u8], sheet: &mut [u64]) -> Went {
     let mut err = said_room();
     let filed = filing::take_file(name, text, sheet, &mut err);
     let people = filed.err;
-    if !write_came(STDERR_FILENO, &err, people) {
+    if write_came(&mut rt.stderr(), &err, people).is_err() {
         return Went::Stopped;
     }
     if filed.refused {
@@ -130,47 +99,46 @@ fn take_text(name: &[u8], text: &[u8], sheet: &mut [u64]) -> Went {
 }
 
 // So is what an open file holds; a file that cannot be read is neither taken nor refused.
-fn take_open(name: &[u8], fd: i32, file: &mut [u8], sheet: &mut [u64]) -> Went {
-    match read_all(fd, file) {
-        Read::Fault => {
-            fault(name);
+fn take_open<R: Read>(
+    rt: &HostRuntime,
+    name: &[u8],
+    from: &mut R,
+    file: &mut [u8],
+    sheet: &mut [u64],
+) -> Went {
+    match system::read_all(from, file) {
+        Err(why) => {
+            fault(rt, name, why);
             Went::On
         }
-        Read::Bytes(n) => {
-            if file.len() < n {
-                return Went::On;
-            }
-            take_text(name, &file[..n], sheet)
-        }
+        Ok(n) => take_text(rt, name, &file[..n], sheet),
     }
 }
 
-// So is the file with a name; `-` is standard input.
-fn take_named(name: &[u8], file: &mut [u8], sheet: &mut [u64]) -> Went {
-    if name.len() == 1 {
-        if name[0] == b'-' {
-            return take_open(name, 0, file, sheet);
+// So is the file that the i-th argument names; `-` is standard input.
+fn take_named(rt: &HostRuntime, name: &[u8], i: usize, file: &mut [u8], sheet: &mut [u64]) -> Went {
+    if name == b"-".as_slice() {
+        return take_open(rt, name, &mut rt.stdin(), file, sheet);
+    }
+    match system::open_argument(rt, i, name) {
+        Err(why) => {
+            fault(rt, name, why);
+            Went::On
         }
+        Ok(mut from) => take_open(rt, name, &mut from, file, sheet),
     }
-    let fd = os::open_read(name);
-    if fd < 0 {
-        fault(name);
-        return Went::On;
-    }
-    let went = take_open(name, fd, file, sheet);
-    libc::close(fd);
-    went
 }
 
-// So is the file that the i-th argument names.
-fn take_argument(i: usize, file: &mut [u8], sheet: &mut [u64]) -> Went {
-    let mut name = io::buffer();
-    let n = os::arg(i, &mut name);
-    if os::errno() != 0 {
-        fault(b"a file's name");
-        return Went::On;
+// So is it of the i-th argument.
+fn take_argument(rt: &HostRuntime, i: usize, file: &mut [u8], sheet: &mut [u64]) -> Went {
+    let mut name = system::name_room();
+    match system::argument(rt, i, &mut name) {
+        Err(why) => {
+            fault(rt, b"a file's name", why);
+            Went::On
+        }
+        Ok(n) => take_named(rt, &name[..n], i, file, sheet),
     }
-    take_named(&name[..n], file, sheet)
 }
 
 // One more of n; no count of files comes to the highest number.
@@ -193,31 +161,29 @@ fn after(went: Went, refused: u64) -> Done {
 }
 
 // So are the files that the arguments from the third on name; without any, standard input.
-fn take_all(count: usize, file: &mut [u8], sheet: &mut [u64]) -> Done {
+fn take_all(rt: &HostRuntime, count: usize, file: &mut [u8], sheet: &mut [u64]) -> Done {
     if count < 3 {
-        return after(take_named(b"-", file, sheet), 0);
+        return after(take_named(rt, b"-", 2, file, sheet), 0);
     }
     let mut done = Done {
         refused: 0,
         on: true,
     };
-    let mut i: usize = 2;
-    while i < count {
-        done = after(take_argument(i, file, sheet), done.refused);
+    for i in 2..count {
+        done = after(take_argument(rt, i, file, sheet), done.refused);
         if !done.on {
             return done;
         }
-        i += 1;
     }
     done
 }
 
 // The table of the sheet is written.
-fn write_table(sheet: &[u64], refused: u64) {
+fn write_table(rt: &HostRuntime, sheet: &[u64], refused: u64) {
     let mut out = said_room();
     let came = table::table(&mut out, Came::To(0), sheet, refused);
-    if !write_came(STDOUT_FILENO, &out, came) {
-        fault(b"standard output");
+    if let Err(why) = write_came(&mut rt.stdout(), &out, came) {
+        unwritten(rt, why);
     }
 }
 
@@ -229,36 +195,34 @@ fn is_option(name: &[u8]) -> bool {
     name[0] == b'-'
 }
 
-fn has_option(i: usize) -> bool {
-    let mut name = io::buffer();
-    let n = os::arg(i, &mut name);
+fn has_option(rt: &HostRuntime, i: usize) -> bool {
+    let mut name = system::name_room();
+    let n = system::argument(rt, i, &mut name).unwrap_or(0);
     if is_option(&name[..n]) {
-        wrong(&name[..n], b": no command knows this word\n");
+        wrong(rt, &name[..n], b": no command knows this word\n");
         return true;
     }
     false
 }
 
-fn has_options(count: usize) -> bool {
-    let mut i: usize = 2;
-    while i < count {
-        if has_option(i) {
+fn has_options(rt: &HostRuntime, count: usize) -> bool {
+    for i in 2..count {
+        if has_option(rt, i) {
             return true;
         }
-        i += 1;
     }
     false
 }
 
-fn main() {
-    let count = os::arg_count();
-    if has_options(count) {
+fn main(rt: HostRuntime) {
+    let count = system::argument_count(&rt);
+    if has_options(&rt, count) {
         return;
     }
     let mut file = file_room();
     let mut sheet = empty_sheet();
-    let done = take_all(count, &mut file, &mut sheet);
+    let done = take_all(&rt, count, &mut file, &mut sheet);
     if done.on {
-        write_table(&sheet, done.refused);
+        write_table(&rt, &sheet, done.refused);
     }
 }

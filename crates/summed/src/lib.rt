@@ -1,4 +1,6 @@
 // What a recorded answer adds, laid out as a sheet, and whether a sheet holds the same.
+#![tactic(auto)]
+
 ghost use Rattle.std.specs.Prelude.{◌≡◌, ◌+◌, ◌-◌, ◌≤◌, length, slice_set};
 ghost use Rattle.summed.specs.Summed.{answer_onto, as_row, between, dropped, ended_onto, failed, fewer, joined, more, recorded_onto, tallies, token_onto, tokens_onto};
 

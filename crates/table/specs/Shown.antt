@@ -3,7 +3,7 @@ use Rattle.std.specs.Prelude.{ℕ, ◌≤◌, true, List, ◌≡◌, length, tak
 use Rattle.std.proofs.Common.{arith, get_or-take, length-take-le, le-leb}
 use Rattle.sheet.specs.Adds.{empty_sheet, sheet_size, work_limit}
 use Rattle.sheet.specs.Laws.{empty_length, within_these}
-use Rattle.sheet.specs.Theorems.{small_totals, takes-length}
+use Rattle.sheet.proofs.Theorems.{small_totals, takes-length}
 use Rattle.sheet.specs.Totals.{takes}
 use Rattle.table.specs.Table.{is_shown}
 

@@ -1,4 +1,6 @@
 // What the command `sheet` says, as bytes: the table of a sheet's totals.
+#![tactic(auto)]
+
 ghost use Rattle.std.specs.Prelude.{◌≡◌, true, [], ◌∷◌, ◌*◌, ◌-◌, ◌≤◌, length, take};
 ghost use Rattle.text.specs.Lay.{lay_all};
 ghost use Rattle.text.specs.Names.{code_name, kind_name};

@@ -12,7 +12,7 @@ pub const END: u32 = 0x110000;
 
 // What is known of a property below the code point `next`: how many the file names, how many the function does, the first difference (or END),
 // and the first line that cannot be read (or 0).
-#[derive(Drop)]
+#[derive(Clone, Copy)]
 pub struct Tally {
     pub next: u32,
     pub told: u32,

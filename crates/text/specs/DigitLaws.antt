@@ -1,6 +1,6 @@
 -- Digits read back are the number; there is no leading zero; how many there are.
 use Rattle.std.specs.Prelude.{ℕ, zero, suc, ◌+◌, ◌-◌, ◌*◌, ◌/◌, ◌%◌, ◌≤◌, ◌<◌, Bool, true, false, cond, List, [], ◌∷◌, ◌≡◌, refl, ltb, get_or, length}
-use Rattle.std.proofs.Common.{arith, sym, ap, ◌∙◌, le-ltb, lt-ltb}
+use Rattle.std.proofs.Common.{arith, ap, ◌∙◌, le-ltb, lt-ltb}
 use Rattle.utf8.specs.Picks.{tests}
 use Rattle.text.specs.Digits.{digits, digits_then, most_digits, value_from, width, width_in}
 

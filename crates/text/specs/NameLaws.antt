@@ -1,6 +1,6 @@
 -- The code's tables of names: all names one after another, and where each ends. Each is the name that the definition gives.
 use Rattle.std.specs.Prelude.{ℕ, zero, suc, ◌+◌, ◌-◌, ◌≤◌, ◌<◌, Bool, true, false, ◌&&◌, List, [], ◌∷◌, ◌≡◌, eqb, leb, drop, get_or, length, take}
-use Rattle.std.proofs.Common.{arith, sym, ap, subst, ◌∙◌, length-drop, length-take-le}
+use Rattle.std.proofs.Common.{arith, ap, subst, ◌∙◌, length-drop, length-take-le}
 use Rattle.std.proofs.Math.Path.{refl}
 use Rattle.std.proofs.Math.ListN.{get_or-eq_default}
 use Rattle.utf8.specs.Picks.{tests}

@@ -1,4 +1,6 @@
 // What the programs say, as bytes in a lent buffer: numbers, names, lines. Nothing here knows of files.
+#![tactic(auto)]
+
 mod names;
 
 ghost use Rattle.std.specs.Prelude.{◌≡◌, ◌+◌, ◌-◌, ◌≤◌, get_or, length};
@@ -17,7 +19,7 @@ use names::{
 };
 
 // How far bytes came that were put into a buffer; or they did not fit, and none was put.
-#[derive(Drop)]
+#[derive(Clone, Copy)]
 pub enum Came {
     To(usize),
     Full,
@@ -147,7 +149,7 @@ fn spaced_in(out: &mut [u8], at: usize, n: u64) -> usize
 }
 
 // What a line is made of.
-#[derive(Drop)]
+#[derive(Clone, Copy)]
 pub enum Piece {
     Phrase(usize),
     Number(u64),

@@ -1,32 +1,26 @@
 // The program behind the script `teyk`: its first argument is a command, the others are files; `--depth` and `--kept` may stand right after
 // `list`. It reads, calls the command's function, and writes the bytes that this made; all that talks to the system stands here.
-ghost use Rattle.std.specs.Prelude.{◌≡◌, ◌≤◌, length};
+#![tactic(auto)]
+
+ghost use Rattle.std.specs.Prelude.{◌≡◌, length};
 
 use commands::Said;
-use libc::{STDERR_FILENO, STDOUT_FILENO};
 use record::Reading;
 use run::Group;
+use std::io;
+use std::io::{Error, ErrorKind, Read, Write};
+use std::rt::Env;
 use text::Came;
 
 // The commands by number; `list` with its reading and with what its records hold: of nine numbers it tells depths. So `commands::list` has one
 // caller, and its records stand where those of `unpack` do: with two the stack would be too small.
-#[derive(Drop)]
+#[derive(Clone, Copy)]
 enum Command {
     List(Reading, Group),
     Pack,
     Unpack,
     Unknown,
 }
-
-// What a read came to: a number of bytes, none at the end; or the system refused it.
-#[derive(Drop)]
-enum Read {
-    Bytes(usize),
-    Fault,
-}
-
-// How often a read that a signal interrupted is tried again.
-const TRIES: u32 = 1000000;
 
 // No listing has more parts: 32,768 records in parts of 8,192, and a last line.
 const MOST_PARTS: usize = 5;
@@ -51,80 +45,54 @@ fn err_room() -> [u8; 8192]
     [0; 8192]
 }
 
-// One read; one that a signal interrupted is tried again.
-fn read_once(fd: i32, buf: &mut [u8]) -> Read {
-    let mut left = TRIES;
-    while 0 < left {
-        let got = libc::read(fd, buf);
-        if 0 <= got {
-            return Read::Bytes(io::count(got, buf));
-        }
-        if os::errno() != libc::EINTR {
-            return Read::Fault;
-        }
-        left -= 1;
-    }
-    Read::Fault
-}
-
-// Reads until the buffer is full or the file ends.
-fn read_all(fd: i32, buf: &mut [u8]) -> Read {
-    let mut n: usize = 0;
-    while n < buf.len() {
-        match read_once(fd, &mut buf[n..]) {
-            Read::Fault => {
-                return Read::Fault;
-            }
-            Read::Bytes(k) => {
-                if k == 0 {
-                    return Read::Bytes(n);
-                }
-                if buf.len() - n < k {
-                    return Read::Fault;
-                }
-                n += k;
-            }
-        }
-    }
-    Read::Bytes(n)
+// What cannot be written to standard error is let go.
+fn tell(rt: &HostRuntime, words: &[u8]) {
+    let _ = system::write_whole(&mut rt.stderr(), words);
 }
 
 // A line on standard error: what a fault of the system, or a wrong call, is said with begins with `teyk: `.
-fn wrong(what: &[u8], why: &[u8]) {
-    io::write_all(STDERR_FILENO, b"teyk: ");
-    io::write_all(STDERR_FILENO, what);
-    io::write_all(STDERR_FILENO, why);
+fn wrong(rt: &HostRuntime, what: &[u8], why: &[u8]) {
+    tell(rt, b"teyk: ");
+    tell(rt, what);
+    tell(rt, why);
 }
 
-fn fault(what: &[u8]) {
-    io::write_all(STDERR_FILENO, b"teyk: ");
-    os::fail(what);
+fn fault(rt: &HostRuntime, what: &[u8], why: Error) {
+    tell(rt, b"teyk: ");
+    system::fail(&rt.stderr(), what, why);
 }
 
-// Writes the bytes that were put; answers whether all of them were written.
-fn write_came(fd: i32, bytes: &[u8], came: Came) -> bool {
+// Standard output takes no more.
+fn unwritten(rt: &HostRuntime, why: Error) {
+    if why.kind() == ErrorKind::BrokenPipe {
+        wrong(rt, b"standard output", b": nobody reads it any more\n");
+        return;
+    }
+    fault(rt, b"standard output", why);
+}
+
+// Writes the bytes that were put; what had no room cannot be written.
+fn write_came<W: Write>(to: &mut W, bytes: &[u8], came: Came) -> io::Result<()> {
     match came {
-        Came::Full => false,
+        Came::Full => Err(Error::from(ErrorKind::WriteZero)),
         Came::To(n) => {
             if bytes.len() < n {
-                return false;
+                return Err(Error::from(ErrorKind::WriteZero));
             }
-            io::write_all(fd, &bytes[..n])
+            system::write_whole(to, &bytes[..n])
         }
     }
 }
 
-fn write_said(said: Said, out: &[u8], err: &[u8]) -> bool {
+// Whether all that a command says was written.
+fn write_said(rt: &HostRuntime, said: Said, out: &[u8], err: &[u8]) -> bool {
     let came = said.out;
-    if !write_came(STDOUT_FILENO, out, came) {
-        fault(b"standard output");
+    if let Err(why) = write_came(&mut rt.stdout(), out, came) {
+        unwritten(rt, why);
         return false;
     }
     let people = said.err;
-    if !write_came(STDERR_FILENO, err, people) {
-        return false;
-    }
-    true
+    write_came(&mut rt.stderr(), err, people).is_ok()
 }
 
 // What a command says of the bytes of one file, or a part of it.
@@ -152,110 +120,97 @@ fn say(
 }
 
 // A command on the bytes of one file, part by part; answers whether to go on.
-fn speak(command: Command, headed: bool, name: &[u8], file: &[u8]) -> bool {
+fn speak(rt: &HostRuntime, command: Command, headed: bool, name: &[u8], file: &[u8]) -> bool {
     let mut out = out_room();
     let mut err = err_room();
-    let mut part: usize = 0;
-    while part < MOST_PARTS {
+    for part in 0..MOST_PARTS {
         let said = say(command, part, headed, name, file, &mut out, &mut err);
         let more = said.more;
-        if !write_said(said, &out, &err) {
+        if !write_said(rt, said, &out, &err) {
             return false;
         }
         if !more {
             return true;
         }
-        part += 1;
     }
     true
 }
 
 // A command on what an open file holds.
-fn on_open(command: Command, headed: bool, name: &[u8], fd: i32) -> bool {
+fn on_open<R: Read>(
+    rt: &HostRuntime,
+    command: Command,
+    headed: bool,
+    name: &[u8],
+    from: &mut R,
+) -> bool {
     let mut file = file_room();
-    match read_all(fd, &mut file) {
-        Read::Fault => {
-            fault(name);
+    match system::read_all(from, &mut file) {
+        Err(why) => {
+            fault(rt, name, why);
             true
         }
-        Read::Bytes(n) => {
-            if file.len() < n {
-                return true;
-            }
-            speak(command, headed, name, &file[..n])
-        }
+        Ok(n) => speak(rt, command, headed, name, &file[..n]),
     }
-}
-
-// A command on the file with a name; `-` is standard input.
-fn on_named(command: Command, headed: bool, name: &[u8]) -> bool {
-    if name.len() == 1 {
-        if name[0] == b'-' {
-            return on_open(command, headed, name, 0);
-        }
-    }
-    let fd = os::open_read(name);
-    if fd < 0 {
-        fault(name);
-        return true;
-    }
-    let on = on_open(command, headed, name, fd);
-    libc::close(fd);
-    on
 }
 
 // A command on the file that the i-th argument names.
-fn on_argument(command: Command, headed: bool, i: usize) -> bool {
-    let mut name = io::buffer();
-    let n = os::arg(i, &mut name);
-    if os::errno() != 0 {
-        fault(b"a file's name");
-        return true;
+fn on_named(rt: &HostRuntime, command: Command, headed: bool, name: &[u8], i: usize) -> bool {
+    if is_word(name, b"-") {
+        return on_open(rt, command, headed, name, &mut rt.stdin());
     }
-    on_named(command, headed, &name[..n])
+    match system::open_argument(rt, i, name) {
+        Err(why) => {
+            fault(rt, name, why);
+            true
+        }
+        Ok(mut file) => on_open(rt, command, headed, name, &mut file),
+    }
+}
+
+// So is it on the i-th argument; `-` is standard input.
+fn on_argument(rt: &HostRuntime, command: Command, headed: bool, i: usize) -> bool {
+    let mut name = system::name_room();
+    match system::argument(rt, i, &mut name) {
+        Err(why) => {
+            fault(rt, b"a file's name", why);
+            true
+        }
+        Ok(n) => on_named(rt, command, headed, &name[..n], i),
+    }
 }
 
 // A command on the files that the arguments from the first on name.
-fn on_all(command: Command, first: usize, count: usize) {
-    let mut i = first;
-    while i < count {
-        if !on_argument(command, 1 < count - first, i) {
+fn on_all(rt: &HostRuntime, command: Command, first: usize, count: usize) {
+    let headed = 1 < count.saturating_sub(first);
+    for i in first..count {
+        if !on_argument(rt, command, headed, i) {
             return;
         }
-        i += 1;
     }
 }
 
-fn is_word<'a>(name: &'a [u8], word: &'a [u8]) -> bool {
-    if name.len() != word.len() {
-        return false;
-    }
-    let mut i: usize = 0;
-    while i < name.len() {
-        if name[i] != word[i] {
-            return false;
-        }
-        i += 1;
-    }
-    true
+fn is_word(name: &[u8], word: &[u8]) -> bool {
+    name == word
 }
 
-fn is_argument(i: usize, word: &[u8]) -> bool {
-    let mut name = io::buffer();
-    let n = os::arg(i, &mut name);
+// An argument that is missing, or longer than any path, is no word.
+fn is_argument(rt: &impl Env, i: usize, word: &[u8]) -> bool {
+    let mut name = system::name_room();
+    let n = system::argument(rt, i, &mut name).unwrap_or(0);
     is_word(&name[..n], word)
 }
 
 // The command `list` with the options that may stand right after it, each once, in either order.
-fn list_command() -> Command {
-    if is_argument(2, b"--depth") {
-        if is_argument(3, b"--kept") {
+fn list_command(rt: &impl Env) -> Command {
+    if is_argument(rt, 2, b"--depth") {
+        if is_argument(rt, 3, b"--kept") {
             return Command::List(Reading::Kept, Group::Nine);
         }
         return Command::List(Reading::Old, Group::Nine);
     }
-    if is_argument(2, b"--kept") {
-        if is_argument(3, b"--depth") {
+    if is_argument(rt, 2, b"--kept") {
+        if is_argument(rt, 3, b"--depth") {
             return Command::List(Reading::Kept, Group::Nine);
         }
         return Command::List(Reading::Kept, Group::Five);
@@ -263,9 +218,9 @@ fn list_command() -> Command {
     Command::List(Reading::Old, Group::Five)
 }
 
-fn command_named(name: &[u8]) -> Command {
+fn command_named(rt: &impl Env, name: &[u8]) -> Command {
     if is_word(name, b"list") {
-        return list_command();
+        return list_command(rt);
     }
     if is_word(name, b"pack") {
         return Command::Pack;
@@ -301,53 +256,51 @@ fn is_option(name: &[u8]) -> bool {
     name[0] == b'-'
 }
 
-fn has_option(i: usize) -> bool {
-    let mut name = io::buffer();
-    let n = os::arg(i, &mut name);
+fn has_option(rt: &HostRuntime, i: usize) -> bool {
+    let mut name = system::name_room();
+    let n = system::argument(rt, i, &mut name).unwrap_or(0);
     if is_option(&name[..n]) {
-        wrong(&name[..n], b": no command knows this word\n");
+        wrong(rt, &name[..n], b": no command knows this word\n");
         return true;
     }
     false
 }
 
-fn has_options(first: usize, count: usize) -> bool {
-    let mut i = first;
-    while i < count {
-        if has_option(i) {
+fn has_options(rt: &HostRuntime, first: usize, count: usize) -> bool {
+    for i in first..count {
+        if has_option(rt, i) {
             return true;
         }
-        i += 1;
     }
     false
 }
 
-fn run_command(command: Command, count: usize) {
+fn run_command(rt: &HostRuntime, command: Command, count: usize) {
     let first = first_file(command);
-    if has_options(first, count) {
+    if has_options(rt, first, count) {
         return;
     }
     if count <= first {
-        on_named(command, false, b"-");
+        on_named(rt, command, false, b"-", first);
         return;
     }
-    on_all(command, first, count);
+    on_all(rt, command, first, count);
 }
 
-fn main() {
-    let count = os::arg_count();
-    let mut name = io::buffer();
-    let n = os::arg(1, &mut name);
-    let command = command_named(&name[..n]);
+fn main(rt: HostRuntime) {
+    let count = system::argument_count(&rt);
+    let mut name = system::name_room();
+    let n = system::argument(&rt, 1, &mut name).unwrap_or(0);
+    let command = command_named(&rt, &name[..n]);
     match command {
-        Command::Unknown => wrong(&name[..n], b": unknown command\n"),
+        Command::Unknown => wrong(&rt, &name[..n], b": unknown command\n"),
         Command::Pack => {
             if 3 < count {
-                wrong(b"pack", b": takes one file\n");
+                wrong(&rt, b"pack", b": takes one file\n");
                 return;
             }
-            run_command(command, count);
+            run_command(&rt, command, count);
         }
-        _ => run_command(command, count),
+        _ => run_command(&rt, command, count),
     }
 }

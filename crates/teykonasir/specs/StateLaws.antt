@@ -17,7 +17,7 @@ use Rattle.record.specs.declared.Code.TheVariants.{UnrecognizedToken, Unterminat
 use Rattle.record.specs.declared.Reading.{Reading}
 use Rattle.record.specs.declared.Reading.TheVariants.{Old}
 use Rattle.record.specs.declared.Refusal.{Refusal}
-use Rattle.reading.specs.AnyCall.{run_reading}
+use Rattle.reading.proofs.AnyCall.{run_reading}
 use Rattle.reading.specs.Next.{next}
 use Rattle.reading.specs.declared.Outcome.{Outcome}
 use Rattle.reading.specs.declared.Outcome.TheVariants.{Ended, Refused, Running}

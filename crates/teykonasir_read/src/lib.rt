@@ -1,5 +1,7 @@
-// A run that tells the depths of comments, in either reading, for C programs, in an archive of its own: beside it in one archive the reading would have two callers, and
-// `teyk_run` would be slower (docs/BENCH.md). include/teykonasir.h says the function whole.
+// A run that tells the depths of comments, in either reading, over numbers and slices, as C programs call it: the archive is of the crate teykonasir_read_c.
+// include/teykonasir.h says the function whole.
+#![tactic(auto)]
+
 ghost use Rattle.std.specs.Prelude.{◌≡◌, ◌≤◌, length};
 ghost use Rattle.record.specs.Records.{over};
 ghost use Rattle.numbers.specs.Values.{how_code};
@@ -52,8 +54,7 @@ fn put_read(answer: &mut [u64], ran: Ran) -> u64
 
 // A run from the start, in a reading that is chosen by its number, into records of nine numbers: the answer is code, place, records, advances, depth of the
 // last gap, and one number not told yet. A number that names no reading is refused before the text is looked at.
-#[unsafe(no_mangle)]
-pub extern "C" fn teyk_read(
+pub fn teyk_read(
     text: &[u8],
     reading: u64,
     shift: u64,

@@ -1,7 +1,8 @@
 -- What the sums of the code rest on: the characters passed are no more than those that there are.
 use Rattle.std.specs.Prelude.{◌+◌, ◌<◌, ◌≤◌, ℕ, Bool, cond, false, true, List, [], ◌∷◌, ◌≡◌, refl, eqb, drop, length}
-use Rattle.std.proofs.Common.{arith, ◌∙◌, ap, sym, eqb-true}
-use Rattle.utf8.specs.Laws.{Seen, ended, seen}
+use Rattle.std.proofs.Common.{arith, ◌∙◌, ap, eqb-true}
+use Rattle.utf8.proofs.Laws.{seen}
+use Rattle.utf8.specs.Laws.{Seen, ended}
 use Rattle.utf8.specs.Utf8.{sight_at, width_of}
 use Rattle.utf8.specs.declared.Sight.{Sight}
 use Rattle.utf8.specs.declared.Sight.TheVariants.{Char, End as SightEnd}

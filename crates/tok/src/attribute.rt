@@ -150,7 +150,7 @@ fn shebang_attribute(s: &[u8], at: usize) -> Attempt
 }
 
 // The cursor after an attribute, and the characters that it passed.
-#[derive(Drop)]
+#[derive(Clone, Copy)]
 struct Tail {
     at: usize,
     passed: usize,

@@ -6,7 +6,7 @@ ghost use Rattle.scan.specs.Runs.{run};
 ghost use Rattle.scan.specs.Seek.{block_comment, skip_more};
 ghost use Rattle.scan.specs.Until.{left};
 ghost use Rattle.scan.specs.Walk.{turn_of};
-ghost use Rattle.reading.specs.Gaps.{comment_turn, gap_turn, gap, gap_depth};
+ghost use Rattle.reading.specs.Gaps.{comment_turn, gap_turn, gap, gap_depth_of};
 ghost use Rattle.reading.specs.Steps.{gap_stop};
 
 use scan::{Deep, Skip, Sought, Turn, Turned};
@@ -110,7 +110,7 @@ fn is_over(s: &[u8], at: usize) -> bool
 
 // A gap of any kind.
 fn gap_far(s: &[u8], from: usize) -> Deep
-    ensures { (result.skip ≡ gap (left s.now from) from) × (result.depth ≡ gap_depth (left s.now from) from) }
+    ensures { (result.skip ≡ gap (left s.now from) from) × (result.depth ≡ gap_depth_of (left s.now from) from) }
 {
     let mut at = from;
     let mut n: usize = 0;
@@ -155,7 +155,7 @@ fn gap_far(s: &[u8], from: usize) -> Deep
 
 // What stands before the next token: white space below 128 and no more, most often.
 pub fn gap(s: &[u8], from: usize) -> Deep
-    ensures { (result.skip ≡ gap (left s.now from) from) × (result.depth ≡ gap_depth (left s.now from) from) }
+    ensures { (result.skip ≡ gap (left s.now from) from) × (result.depth ≡ gap_depth_of (left s.now from) from) }
 {
     let to = gap_run(s, from);
     if is_over(s, to) {

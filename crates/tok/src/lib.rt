@@ -1,4 +1,6 @@
 // The tokenizer: gaps, symbols, words, attributes; one call.
+#![tactic(auto)]
+
 mod attribute;
 pub mod gaps;
 mod identifier;

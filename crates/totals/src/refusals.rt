@@ -12,31 +12,37 @@ fn holding(texts: u64, i: usize, n: u64) -> [u64; 96] {
 }
 
 // A text for a sheet: what is answered, and whether the sheet is what it was.
-fn offered(name: &[u8], text: &[u8], page: [u64; 96]) {
+fn offered(rt: &impl Print, name: &[u8], text: &[u8], page: [u64; 96]) {
     let mut after = page;
-    say(name);
-    taken(sheet::take(text, &mut after));
-    unchanged(&page, &after);
+    say(rt, name);
+    taken(rt, sheet::take(text, &mut after));
+    unchanged(rt, &page, &after);
 }
 
 // A sheet without its last number.
-fn short() {
+fn short(rt: &impl Print) {
     let before = [0u64; 95];
     let mut page = before;
-    say(b"95 numbers: ");
-    taken(sheet::take(b"a", &mut page));
-    unchanged(&before, &page);
+    say(rt, b"95 numbers: ");
+    taken(rt, sheet::take(b"a", &mut page));
+    unchanged(rt, &before, &page);
 }
 
 // 2^50 for each text taken is the most that a sheet holds.
-pub(crate) fn refusals() {
+pub(crate) fn refusals(rt: &impl Print) {
     offered(
+        rt,
         b"3 texts and 3 * 2^50: ",
         b"a",
         holding(3, 58, 3377699720527872),
     );
-    offered(b"and one more: ", b"a", holding(3, 58, 3377699720527873));
-    offered(b"a tally: ", b"a", holding(3, 95, 3377699720527873));
-    offered(b"no text and a 1: ", b"a", holding(0, 15, 1));
-    short();
+    offered(
+        rt,
+        b"and one more: ",
+        b"a",
+        holding(3, 58, 3377699720527873),
+    );
+    offered(rt, b"a tally: ", b"a", holding(3, 95, 3377699720527873));
+    offered(rt, b"no text and a 1: ", b"a", holding(0, 15, 1));
+    short(rt);
 }

@@ -1,32 +1,32 @@
 // What this program prints with.
-use libc::STDOUT_FILENO;
 use record::Refusal;
 use recorded::Difference;
 use sheet::Taken;
 use text::Came;
 
-pub(crate) fn say(words: &[u8]) {
-    io::write_all(STDOUT_FILENO, words);
+// What cannot be written is let go.
+pub(crate) fn say(rt: &impl Print, words: &[u8]) {
+    let _ = rt.write_all(words);
 }
 
-pub(crate) fn number(n: u64) {
-    io::print_decimal(STDOUT_FILENO, n);
+pub(crate) fn number(rt: &impl Print, n: u64) {
+    let _ = print!(rt; "{n}");
 }
 
 // The bytes of a buffer up to where they came.
-fn came(buffer: &[u8], to: Came) {
+fn came(rt: &impl Print, buffer: &[u8], to: Came) {
     match to {
         Came::To(n) => {
             if n <= buffer.len() {
-                say(&buffer[..n]);
+                say(rt, &buffer[..n]);
             }
         }
-        Came::Full => say(b"does not fit"),
+        Came::Full => say(rt, b"does not fit"),
     }
 }
 
 // `error NAME at P`
-fn refusal(r: Refusal) {
+fn refusal(rt: &impl Print, r: Refusal) {
     let c = r.code;
     let mut buffer = [0u8; 128];
     let to = text::refusal_line(
@@ -35,49 +35,47 @@ fn refusal(r: Refusal) {
         record::code_number(c) as u64,
         r.place,
     );
-    came(&buffer, to);
+    came(rt, &buffer, to);
 }
 
 // What became of a text.
-pub(crate) fn taken(t: Taken) {
+pub(crate) fn taken(rt: &impl Print, t: Taken) {
     match t {
-        Taken::Whole => say(b"taken\n"),
+        Taken::Whole => say(rt, b"taken\n"),
         Taken::Tallied(r) => {
-            say(b"tallied: ");
-            refusal(r);
+            say(rt, b"tallied: ");
+            refusal(rt, r);
         }
         Taken::Refused(r) => {
-            say(b"refused: ");
-            refusal(r);
+            say(rt, b"refused: ");
+            refusal(rt, r);
         }
     }
 }
 
 // One of a sheet's numbers, where it is not 0.
-fn held(i: usize, n: u64) {
+fn held(rt: &impl Print, i: usize, n: u64) {
     if n != 0 {
-        say(b" ");
-        number(i as u64);
-        say(b":");
-        number(n);
+        say(rt, b" ");
+        number(rt, i as u64);
+        say(rt, b":");
+        number(rt, n);
     }
 }
 
 // The numbers of a sheet that are not 0, each after its index.
-pub(crate) fn numbers(page: &[u64]) {
-    say(b" ");
-    let mut i: usize = 0;
-    while i < page.len() {
-        held(i, page[i]);
-        i += 1;
+pub(crate) fn numbers(rt: &impl Print, page: &[u64]) {
+    say(rt, b" ");
+    for (i, n) in page.iter().enumerate() {
+        held(rt, i, *n);
     }
-    say(b"\n");
+    say(rt, b"\n");
 }
 
 // Whether a sheet is what it was.
-pub(crate) fn unchanged(before: &[u64], after: &[u64]) {
+pub(crate) fn unchanged(rt: &impl Print, before: &[u64], after: &[u64]) {
     match recorded::numbers_differ(0, before, after) {
-        Difference::Same => say(b"  unchanged\n"),
-        _ => say(b"  changed\n"),
+        Difference::Same => say(rt, b"  unchanged\n"),
+        _ => say(rt, b"  changed\n"),
     }
 }

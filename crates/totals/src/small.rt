@@ -10,49 +10,49 @@ pub(crate) fn empty_row() -> [u64; 96]
     [0; 96]
 }
 
-fn adds(text: &[u8], sum: &mut [u64]) {
+fn adds(rt: &impl Print, text: &[u8], sum: &mut [u64]) {
     let mut page = empty_row();
-    say(text);
-    say(b" ");
-    taken(sheet::take(text, &mut page));
-    numbers(&page);
+    say(rt, text);
+    say(rt, b" ");
+    taken(rt, sheet::take(text, &mut page));
+    numbers(rt, &page);
     sheet::take(text, sum);
 }
 
 // Tokens with whitespace and comments between them.
-fn plain(sum: &mut [u64]) {
-    adds(b"", sum);
-    adds(b"grammar;", sum);
-    adds(b"pub A: B = { <n:C> => n };", sum);
-    adds(b" // a \xc3\xa9", sum);
-    adds(b"a/* b /* c */ */ \"d\"", sum);
-    adds(b"use a/* b /* c /* d */ */ */;", sum);
+fn plain(rt: &impl Print, sum: &mut [u64]) {
+    adds(rt, b"", sum);
+    adds(rt, b"grammar;", sum);
+    adds(rt, b"pub A: B = { <n:C> => n };", sum);
+    adds(rt, b" // a \xc3\xa9", sum);
+    adds(rt, b"a/* b /* c */ */ \"d\"", sum);
+    adds(rt, b"use a/* b /* c /* d */ */ */;", sum);
 }
 
 // What a hash starts: attributes, with and without a character after them, and attempts that fail.
-fn sharp(sum: &mut [u64]) {
-    adds(b"#![a]\xc3\xa9 b", sum);
-    adds(b"#![a]", sum);
-    adds(b"#x", sum);
-    adds(b"#![x", sum);
+fn sharp(rt: &impl Print, sum: &mut [u64]) {
+    adds(rt, b"#![a]\xc3\xa9 b", sum);
+    adds(rt, b"#![a]", sum);
+    adds(rt, b"#x", sum);
+    adds(rt, b"#![x", sum);
 }
 
 // Literals, two of which do not end, and other errors.
-fn errors(sum: &mut [u64]) {
-    adds(b"r#\"a\"# 'b' 'c", sum);
-    adds(b"\"a", sum);
-    adds(b"r#\"a", sum);
-    adds(b"a .", sum);
-    adds(b"a $", sum);
-    adds(b"a => {", sum);
-    adds(b"a /* b", sum);
+fn errors(rt: &impl Print, sum: &mut [u64]) {
+    adds(rt, b"r#\"a\"# 'b' 'c", sum);
+    adds(rt, b"\"a", sum);
+    adds(rt, b"r#\"a", sum);
+    adds(rt, b"a .", sum);
+    adds(rt, b"a $", sum);
+    adds(rt, b"a => {", sum);
+    adds(rt, b"a /* b", sum);
 }
 
-pub(crate) fn seventeen() {
+pub(crate) fn seventeen(rt: &impl Print) {
     let mut sum = empty_row();
-    plain(&mut sum);
-    sharp(&mut sum);
-    errors(&mut sum);
-    say(b"the sum\n");
-    numbers(&sum);
+    plain(rt, &mut sum);
+    sharp(rt, &mut sum);
+    errors(rt, &mut sum);
+    say(rt, b"the sum\n");
+    numbers(rt, &sum);
 }

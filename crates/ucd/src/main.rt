@@ -1,17 +1,21 @@
 // Unicode's own files over every code point: what the lines in data/ say, and what the three functions of `unicode_xid` answer. Then the same over a
 // file of ours in which differences are planted, so that the run shows that it sees them.
+#![tactic(auto)]
+
 ghost use Rattle.std.specs.Prelude.{◌≡◌, length};
 
-use libc::STDOUT_FILENO;
 use property::line::Property;
+use std::fs::File;
+use std::io;
 use tally::tally::{END, Tally};
 
-fn text(words: &[u8]) {
-    io::write_all(STDOUT_FILENO, words);
+// What cannot be written is let go.
+fn text(rt: &impl Print, words: &[u8]) {
+    let _ = rt.write_all(words);
 }
 
-fn decimal(n: u64) {
-    io::print_decimal(STDOUT_FILENO, n);
+fn decimal(rt: &impl Print, n: u64) {
+    let _ = print!(rt; "{n}");
 }
 
 // Room for the longest of the files.
@@ -22,136 +26,152 @@ fn room() -> [u8; 262144]
 }
 
 // The words of a property's line: before the file's count, before the function's, and after it.
-fn before(p: Property) {
+fn before(rt: &impl Print, p: Property) {
     match p {
-        Property::Start => text(b"XID_Start "),
-        Property::Continue => text(b"XID_Continue "),
-        Property::White => text(b"White_Space "),
+        Property::Start => text(rt, b"XID_Start "),
+        Property::Continue => text(rt, b"XID_Continue "),
+        Property::White => text(rt, b"White_Space "),
     }
 }
 
-fn function(p: Property) {
+fn function(rt: &impl Print, p: Property) {
     match p {
-        Property::Start => text(b"; is_identifier_start "),
-        Property::Continue => text(b"; is_identifier_continue "),
-        Property::White => text(b"; is_whitespace "),
+        Property::Start => text(rt, b"; is_identifier_start "),
+        Property::Continue => text(rt, b"; is_identifier_continue "),
+        Property::White => text(rt, b"; is_whitespace "),
     }
 }
 
-fn tail(p: Property) {
+fn tail(rt: &impl Print, p: Property) {
     match p {
-        Property::Start => text(b", with _\n"),
-        Property::Continue => text(b", with _\n"),
-        Property::White => text(b"\n"),
+        Property::Start => text(rt, b", with _\n"),
+        Property::Continue => text(rt, b", with _\n"),
+        Property::White => text(rt, b"\n"),
     }
 }
 
-fn says(yes: bool) {
+fn says(rt: &impl Print, yes: bool) {
     if yes {
-        text(b", which the function names and the file does not\n");
+        text(rt, b", which the function names and the file does not\n");
         return;
     }
-    text(b", which the file names and the function does not\n");
+    text(rt, b", which the file names and the function does not\n");
 }
 
-fn damage(line: usize) {
+fn damage(rt: &impl Print, line: usize) {
     if line != 0 {
-        text(b"first damaged line: ");
-        decimal(line as u64);
-        text(b"\n");
+        text(rt, b"first damaged line: ");
+        decimal(rt, line as u64);
+        text(rt, b"\n");
     }
 }
 
 // One byte of words.
-fn letter(words: &[u8], at: usize) {
+fn letter(rt: &impl Print, words: &[u8], at: usize) {
     if at < words.len() {
-        text(&words[at..at + 1]);
+        text(rt, &words[at..at + 1]);
     }
 }
 
-fn digit(d: u32) {
-    letter(b"0123456789ABCDEF", (d % 16) as usize);
+fn digit(rt: &impl Print, d: u32) {
+    letter(rt, b"0123456789ABCDEF", (d % 16) as usize);
 }
 
 // A code point as Unicode writes it: four digits, or as many as it takes.
-fn code_point(c: u32) {
-    text(b"U+");
+fn code_point(rt: &impl Print, c: u32) {
+    text(rt, b"U+");
     if 0x100000 <= c {
-        digit(c / 0x100000);
+        digit(rt, c / 0x100000);
     }
     if 0x10000 <= c {
-        digit(c / 0x10000);
+        digit(rt, c / 0x10000);
     }
-    digit(c / 0x1000);
-    digit(c / 0x100);
-    digit(c / 0x10);
-    digit(c);
+    digit(rt, c / 0x1000);
+    digit(rt, c / 0x100);
+    digit(rt, c / 0x10);
+    digit(rt, c);
 }
 
-fn difference(p: Property, c: u32) {
+fn difference(rt: &impl Print, p: Property, c: u32) {
     if c != END {
-        text(b"first difference: ");
-        code_point(c);
-        says(tally::tally::asks(p, c));
+        text(rt, b"first difference: ");
+        code_point(rt, c);
+        says(rt, tally::tally::asks(p, c));
     }
 }
 
 // Prints a tally, and answers whether nothing is wrong.
-fn report(t: Tally, p: Property) -> bool {
-    before(p);
-    decimal(t.told as u64);
-    function(p);
-    decimal(t.yes as u64);
-    tail(p);
-    damage(t.damaged);
-    difference(p, t.first);
+fn report(rt: &impl Print, t: Tally, p: Property) -> bool {
+    before(rt, p);
+    decimal(rt, t.told as u64);
+    function(rt, p);
+    decimal(rt, t.yes as u64);
+    tail(rt, p);
+    damage(rt, t.damaged);
+    difference(rt, p, t.first);
     tally::tally::agrees(t)
 }
 
-// Whether a file is read to its end: a short count may be a read that failed, and one read more answers 0 at the end alone.
-fn is_whole(fd: i32, path: &[u8]) -> bool {
+// A fault of the system, on standard error.
+fn fail(rt: &HostRuntime, path: &str, fault: io::Error) {
+    system::fail(&rt.stderr(), path.as_bytes(), fault);
+}
+
+// Whether a file is read to its end: one read more answers 0 at the end alone.
+fn is_whole(rt: &HostRuntime, path: &str, file: &mut File) -> bool {
     let mut more = [0u8; 1];
-    let got = libc::read(fd, &mut more);
-    if got < 0 {
-        os::fail(path);
-        return false;
+    match system::read_once(file, &mut more) {
+        Err(fault) => {
+            fail(rt, path, fault);
+            false
+        }
+        Ok(0) => true,
+        Ok(_) => {
+            text(rt, path.as_bytes());
+            text(rt, b" is not read to its end\n");
+            false
+        }
     }
-    if 0 < got {
-        text(path);
-        text(b" is not read to its end\n");
-        return false;
-    }
-    true
 }
 
-fn compare(path: &[u8], p: Property) -> bool {
-    let fd = os::open_read(path);
-    if fd < 0 {
-        os::fail(path);
-        return false;
-    }
+fn compare_open(rt: &HostRuntime, path: &str, file: &mut File, p: Property) -> bool {
     let mut buf = room();
-    let n = io::read_full(fd, &mut buf);
-    let whole = is_whole(fd, path);
-    libc::close(fd);
-    if !whole {
-        return false;
+    match system::read_all(file, &mut buf) {
+        Err(fault) => {
+            fail(rt, path, fault);
+            false
+        }
+        Ok(n) => {
+            if !is_whole(rt, path, file) {
+                return false;
+            }
+            report(rt, tally::tally::tally_of(&buf[..n], p), p)
+        }
     }
-    report(tally::tally::tally_of(&buf[..n], p), p)
 }
 
-fn main() {
-    text(b"code points ");
-    decimal(END as u64);
-    text(b"\n");
-    let start = compare(b"DerivedCoreProperties.txt", Property::Start);
-    let more = compare(b"DerivedCoreProperties.txt", Property::Continue);
-    let white = compare(b"PropList.txt", Property::White);
-    if start & more & white {
-        text(b"no difference\n");
+fn compare(rt: &HostRuntime, path: &str, p: Property) -> bool {
+    match File::open(rt, path) {
+        Err(fault) => {
+            fail(rt, path, fault);
+            false
+        }
+        Ok(mut file) => compare_open(rt, path, &mut file, p),
     }
-    text(b"planted:\n");
-    compare(b"Planted.txt", Property::Start);
-    compare(b"Planted.txt", Property::Continue);
-    compare(b"Planted.txt", Property::White);
+}
+
+fn main(rt: HostRuntime) {
+    text(&rt, b"code points ");
+    decimal(&rt, END as u64);
+    text(&rt, b"\n");
+    let start = compare(&rt, "DerivedCoreProperties.txt", Property::Start);
+    let more = compare(&rt, "DerivedCoreProperties.txt", Property::Continue);
+    let white = compare(&rt, "PropList.txt", Property::White);
+    if start & more & white {
+        text(&rt, b"no difference\n");
+    }
+    text(&rt, b"planted:\n");
+    compare(&rt, "Planted.txt", Property::Start);
+    compare(&rt, "Planted.txt", Property::Continue);
+    compare(&rt, "Planted.txt", Property::White);
 }

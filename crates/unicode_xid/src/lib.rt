@@ -1,4 +1,6 @@
 // Which characters are white space, start a word, and go on in one. Each function answers for every u32.
+#![tactic(auto)]
+
 mod tables;
 
 ghost use Rattle.std.specs.Prelude.{◌≡◌, true, length};

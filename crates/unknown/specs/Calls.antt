@@ -10,7 +10,7 @@ use Rattle.scan.specs.IfNext.{if_next}
 use Rattle.scan.specs.declared.Skip.{Skip}
 use Rattle.scan.specs.declared.Skip.TheVariants.{Lost, Past}
 use Rattle.reading.specs.Answers.{deliver, more, plain, refuse, told, told_what}
-use Rattle.reading.specs.Gaps.{gap, gap_depth}
+use Rattle.reading.specs.Gaps.{gap, gap_depth_of}
 use Rattle.reading.specs.Next.{next, next_by, starts, token, token_or_end}
 use Rattle.reading.specs.Symbols.{arrow_look, bang, colon, dot, equals, half, look, minus, right_arrow, single, singles, stray, tilde}
 use Rattle.reading.specs.declared.Call.{Call}
@@ -104,7 +104,7 @@ told_what_lem g d End = refl
 
 mapped-told : (g : ℕ) (x y : Call) → Mapped x y → Mapped (told g x) (told g y)
 unfolding told
-mapped-told g x y h = record { is = rw (h.is, told_what_lem g y.code_depth_lem y.what) }
+mapped-told g x y h = record { is = rw (h.is, told_what_lem g y.code_depth y.what) }
 
 -- in every reading
 module _ (rd : Reading) where
@@ -135,6 +135,6 @@ module _ (rd : Reading) where
   unfolding rust.next next
   next-mapped cs at = go (gap cs at) (gap-coarse cs at)
     where
-      go : (x : Skip) → Loses Coarse x → Mapped (rust.next_by rd cs x (gap_depth cs at)) (next_by rd cs x (gap_depth cs at))
+      go : (x : Skip) → Loses Coarse x → Mapped (rust.next_by rd cs x (gap_depth_of cs at)) (next_by rd cs x (gap_depth_of cs at))
       go (Past p m) h = mapped-told _ _ _ (mapped-more m _ _ (or-end-mapped (drop m cs) p))
       go (Lost r p m) h = record { is = rw h.is }

@@ -21,7 +21,7 @@ use Rattle.scan.specs.Until.{left}
 use Rattle.scan.specs.declared.Skip.{Skip}
 use Rattle.scan.specs.declared.Skip.TheVariants.{Lost, Past}
 use Rattle.reading.specs.Answers.{more, told as deep, told_what}
-use Rattle.reading.specs.Gaps.{gap, gap_depth}
+use Rattle.reading.specs.Gaps.{gap, gap_depth_of}
 use Rattle.reading.specs.Next.{next, token_or_end}
 use Rattle.reading.specs.Passes.{gap_sound}
 use Rattle.reading.specs.Run.{done_by, shift_what}
@@ -37,7 +37,7 @@ use Rattle.run.specs.Checked.{next_token}
 use Rattle.run.specs.declared.Ran.{Ran}
 use Rattle.ledger.specs.Answered.{Loses}
 use Rattle.ledger.specs.Books.{held}
-use Rattle.callers.specs.Contracts.{Nexts, RunsFrom}
+use Rattle.callers.specs.PublicCalls.{Nexts, RunsFrom}
 use Rattle.callers.specs.Repeated.{Calls, Last, answers, full, none, one, repeated}
 use Rattle.callers.specs.Single.{Single, call_of, end_kept, error_kept, limited, off, read, refused, single}
 use Rattle.unknown.specs.Shared.{Coarse, gap-coarse}
@@ -120,7 +120,7 @@ module _ (rd : Reading) where
         let f : Far (left s at) at m p = (rw e at (gap_sound (left s at) at)).is in
         let o : over (left s p) ≡ true = rw (far_left s at m p f) at (gap-over (left s at) at p m e) in
         let y = token_or_end rd (left s p) p in
-        rw (next-gap rd s at p m e) (deep-told p (gap_depth (left s at) at) y.code_depth_lem y.what ∙ first-told rd (left s p) p o)
+        rw (next-gap rd s at p m e) (deep-told p (gap_depth_of (left s at) at) y.code_depth y.what ∙ first-told rd (left s p) p o)
 
     pub half-there : is_half (left s p) ≡ true → (next rd (left s at) at).what ≡ Error (refusal HalfSymbol p)
     unfolding unknown_of

@@ -21,7 +21,7 @@ rust_what (Error r) = Error (rust_refusal r)
 rust_what End = End
 
 abbrev pub rust_call : Call → Call
-rust_call x = record { what = rust_what x.what; at = x.at; advances = x.advances; gap_depth_lem = x.gap_depth_lem; code_depth_lem = x.code_depth_lem }
+rust_call x = record { what = rust_what x.what; at = x.at; advances = x.advances; gap_depth = x.gap_depth; code_depth = x.code_depth }
 
 -- a tokenizer keeps the error that it answered
 abbrev pub rust_outcome : Outcome → Outcome
@@ -33,7 +33,7 @@ abbrev pub rust_tokenizer : Tokenizer → Tokenizer
 rust_tokenizer t = record { at = t.at; count = t.count; done = rust_outcome t.done; reading = t.reading }
 
 abbrev pub rust_stepped : Stepped → Stepped
-rust_stepped x = record { what = rust_what x.what; next = rust_tokenizer x.next; gap_depth_lem = x.gap_depth_lem }
+rust_stepped x = record { what = rust_what x.what; next = rust_tokenizer x.next; gap_depth = x.gap_depth }
 
 abbrev pub rust_run : Run → Run
 rust_run r = record { tokens = r.tokens; how = rust_outcome r.how; state = rust_tokenizer r.state; last = r.last }

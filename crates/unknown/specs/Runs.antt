@@ -43,9 +43,9 @@ step_by_lem shift limit t x = go (ltb limit (t.count + x.advances))
     after w = record { at = x.at; count = t.count + x.advances; done = done_by w; reading = t.reading }
 
     go : (b : Bool)
-        → cond b (record { what = Error (refusal WorkLimit (t.at + shift)); next = rust_tokenizer t; gap_depth_lem = 0 })
-        (record { what = shift_what shift (rust_what x.what); next = after (shift_what shift (rust_what x.what)); gap_depth_lem = x.gap_depth_lem })
-        ≡ rust_stepped (cond b (record { what = Error (refusal WorkLimit (t.at + shift)); next = t; gap_depth_lem = 0 }) (record { what = shift_what shift x.what; next = after (shift_what shift x.what); gap_depth_lem = x.gap_depth_lem }))
+        → cond b (record { what = Error (refusal WorkLimit (t.at + shift)); next = rust_tokenizer t; gap_depth = 0 })
+        (record { what = shift_what shift (rust_what x.what); next = after (shift_what shift (rust_what x.what)); gap_depth = x.gap_depth })
+        ≡ rust_stepped (cond b (record { what = Error (refusal WorkLimit (t.at + shift)); next = t; gap_depth = 0 }) (record { what = shift_what shift x.what; next = after (shift_what shift x.what); gap_depth = x.gap_depth }))
     go true = refl
     go false = rw (shifted shift x.what, done (shift_what shift x.what))
 
@@ -64,7 +64,7 @@ module _ (old new : Reading → List ℕ → ℕ → Call) (mapped : (rd : Readi
   from-mapped : (k room : ℕ) (t : Tokenizer) → run_from_with old s shift limit k room (rust_tokenizer t) ≡ rust_run (run_from_with new s shift limit k room t)
   unfolding run_from_with
   from-mapped zero room t = refl
-  from-mapped (suc k) room t = rw (step-mapped t) (go (from-mapped k) (step_with new s shift limit t).what (step_with new s shift limit t).next (step_with new s shift limit t).gap_depth_lem)
+  from-mapped (suc k) room t = rw (step-mapped t) (go (from-mapped k) (step_with new s shift limit t).what (step_with new s shift limit t).next (step_with new s shift limit t).gap_depth)
     where
       Again : Type 0
       Again = (room : ℕ) (u : Tokenizer) → run_from_with old s shift limit k room (rust_tokenizer u) ≡ rust_run (run_from_with new s shift limit k room u)
@@ -95,8 +95,8 @@ module _ (old new : Reading → List ℕ → ℕ → Call) (mapped : (rd : Readi
   unfolding next_token_with
   single-mapped t = go (checks s shift) checked.is
     where
-      by : (b : Bool) → cond b (step_with old s shift limit (rust_tokenizer t)) (record { what = Error (refusal BadRecord 0); next = rust_tokenizer t; gap_depth_lem = 0 })
-          ≡ rust_stepped (cond b (step_with new s shift limit t) (record { what = Error (refusal BadRecord 0); next = t; gap_depth_lem = 0 }))
+      by : (b : Bool) → cond b (step_with old s shift limit (rust_tokenizer t)) (record { what = Error (refusal BadRecord 0); next = rust_tokenizer t; gap_depth = 0 })
+          ≡ rust_stepped (cond b (step_with new s shift limit t) (record { what = Error (refusal BadRecord 0); next = t; gap_depth = 0 }))
       by true = step-mapped t
       by false = refl
 

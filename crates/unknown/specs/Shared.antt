@@ -13,7 +13,8 @@ use Rattle.reading.specs.Quotes.{escape, lifetimeish, string_literal}
 use Rattle.reading.specs.Regex.{r_word}
 use Rattle.reading.specs.Symbols.{arrow_code}
 use Rattle.reading.specs.Words.{identifierish}
-use Rattle.ledger.specs.Answered.{Loses, Says, arrow_code_says, escape_says, gap_loses, has_payload, hash_says, identifier_says, is_string, lifetimeish_says, r_says, string_says}
+use Rattle.ledger.proofs.Answered.{arrow_code_says, escape_says, gap_loses, hash_says, identifier_says, lifetimeish_says, r_says, string_says}
+use Rattle.ledger.specs.Answered.{Loses, Says, has_payload, is_string}
 
 abbrev pub Any : Token → Type 0
 Any t = Unit {0}

@@ -13,7 +13,7 @@ use Rattle.reading.specs.declared.Tokenizer.{Tokenizer}
 use Rattle.reading.specs.declared.What.{What}
 use Rattle.run.specs.Checked.{next_token_with, ran_with, whole_run_with}
 use Rattle.run.specs.declared.Ran.{Ran}
-use Rattle.callers.specs.Contracts.{Nexts, RunsFrom}
+use Rattle.callers.specs.PublicCalls.{Nexts, RunsFrom}
 use Rattle.unknown.specs.Calls.{next-mapped}
 use Rattle.unknown.specs.Map.{rust_call, rust_ran, rust_tokenizer, rust_what}
 use Rattle.unknown.specs.Runs.{ran-mapped, single-mapped, whole-mapped}

@@ -2,7 +2,6 @@
 pub mod Chars
 pub mod Utf8
 pub mod Encode
-pub mod RoundTrip
 -- the laws that lead there, and those that the code cites
 pub mod Picks
 pub mod Forms

@@ -1,4 +1,6 @@
 // UTF-8 (RFC 3629): what character stands at a place of a byte slice, and whether the whole slice is well formed.
+#![tactic(auto)]
+
 pub mod signs;
 
 ghost use Rattle.std.specs.Prelude.{◌≡◌, true, ◌≤◌, ◌<◌, length, get_or};
@@ -7,14 +9,14 @@ ghost use Rattle.utf8.specs.Widths.{Passes};
 ghost use Rattle.utf8.specs.Utf8.{low, high, lead, sight_at, verdict, boundary};
 
 // What is seen at a place: a character, with its width in bytes, or that no well-formed one starts there.
-#[derive(Drop)]
+#[derive(Clone, Copy)]
 pub enum Sight {
     Char { code: u32, width: usize },
     End,
 }
 
 // Whether a text is well formed; if not, where its first ill-formed sequence starts.
-#[derive(Drop)]
+#[derive(Clone, Copy)]
 pub enum Utf8 {
     Valid,
     Bad(usize),

@@ -1,9 +1,10 @@
 -- Words by their bytes: a word of letters below 128 has as many bytes as letters, and is spelt by them.
 use Rattle.std.specs.Prelude.{◌+◌, ◌-◌, ◌<◌, ◌≤◌, ℕ, Bool, ◌&&◌, cond, false, true, List, [], ◌∷◌, ◌≡◌, eqb, ltb, get_or, length}
-use Rattle.std.proofs.Common.{arith, ◌∙◌, ap, sym, eq-eqb, eqb-true, le-ltb, lt-ltb, ltb-false, ltb-true, ne_eqb}
+use Rattle.std.proofs.Common.{arith, ◌∙◌, ap, sym, eq-eqb, eqb-true, lt-ltb, ltb-false, ltb-true, ne_eqb}
 use Rattle.std.proofs.Math.Path.{refl}
 use Rattle.std.proofs.lemmas.Bool.{eqb-false}
-use Rattle.utf8.specs.Laws.{ended, seen, sight_ascii, sight_in}
+use Rattle.utf8.proofs.Laws.{seen}
+use Rattle.utf8.specs.Laws.{ended, sight_ascii, sight_in}
 use Rattle.utf8.specs.Picks.{by_test}
 use Rattle.utf8.specs.Utf8.{lead, sight_at, width_of}
 use Rattle.utf8.specs.declared.Sight.{Sight}

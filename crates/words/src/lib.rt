@@ -1,4 +1,6 @@
 // The tokens that a word or a quote makes. Words: `_`, `use`, the thirteen keywords, else `MacroId` if `<` follows at once, else `Id`.
+#![tactic(auto)]
+
 pub mod quotes;
 
 ghost use Rattle.std.specs.Prelude.{◌+◌, ◌<◌, ◌≤◌, [], ◌∷◌, ◌≡◌, length};

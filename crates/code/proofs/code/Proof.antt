@@ -5,14 +5,8 @@ use Rattle.code.specs.Stops.{code_stops, stop_here, table}
 use Rattle.code.specs.Code.{closes, opens}
 use Rattle.code.proofs.code.Statement.{statement}
 use Rattle.code.proofs.code.Tie as tie
-use Rattle.code.proofs.code.Reads as reads
-use Rattle.code.proofs.code.Lts as lts
-use Rattle.code.proofs.code_by.Reads as code-by-reads
 
-slice-aggregate-code-by : tie.Need-slice-aggregate-code-by
-slice-aggregate-code-by c = search rules
-
-code-by-requires : tie.Need-code-by-requires
+code-by-requires : tie.Need-code_by-requires
 unfolding code_stops table stop_here opens closes
 code-by-requires c κs = refl
 
@@ -20,4 +14,4 @@ returns : tie.Need-returns
 returns c = search rules
 
 pub code_spec : {M : Type 1} → statement M
-code_spec = tie.close (tie.spec slice-aggregate-code-by code-by-requires returns)
+code_spec = tie.close (tie.spec code-by-requires returns)

@@ -8,45 +8,42 @@ use Rattle.scan.specs.Runs.{run, run_past, run-stop, run_on}
 use Rattle.code.specs.Stops.{class_stop, class_on, class_stop_lem}
 use Rattle.code.proofs.code_run.Statement.{statement}
 use Rattle.code.proofs.code_run.Tie as tie
-use Rattle.code.proofs.code_run.Reads as reads
-use Rattle.code.proofs.code_run.Lts as lts
-use Rattle.code.proofs.index.Reads as index_Reads
 
-abbrev invariant-loop : tie.invariant-loop
+abbrev invariant-loop : tie.invariant-loop-at
 invariant-loop stops s from at₀ at = (from ≤ at) × (at + run (class_stop stops) (drop at s) ≡ from + run (class_stop stops) (drop from s))
 
-abbrev decreases-loop : tie.decreases-loop
+abbrev decreases-loop : tie.decreases-loop-at
 decreases-loop stops s from at₀ at = length s - at
 
-loop-holds : tie.Need-loop-init invariant-loop decreases-loop
+loop-holds : tie.Need-loop-at-init invariant-loop decreases-loop
 loop-holds c = (omega arith, refl)
 
-shared-slice-read-index : tie.Need-shared-slice-read-index invariant-loop decreases-loop
+shared-slice-read-index : tie.Need-bounds-s-at invariant-loop decreases-loop
 shared-slice-read-index c = search rules
 
-index-requires : tie.Need-index-requires invariant-loop decreases-loop
+index-requires : tie.Need-index-i-requires invariant-loop decreases-loop
 index-requires c κs = search rules
 
-shared-slice-read-if1 : tie.Need-shared-slice-read-if1 invariant-loop decreases-loop
-shared-slice-read-if1 c = omega (arith, c.before.index.ensures)
+shared-slice-read-if1 : tie.Need-bounds-stops-i invariant-loop decreases-loop
+shared-slice-read-if1 c = omega (arith, c.index-i.ensures)
 
-returns : tie.Need-returns invariant-loop decreases-loop
-returns c = omega (arith, c.before.before.before.before.before.loop.invariant.1, run-stop (class_stop c.before.before.before.before.before.before.before.before.args.stops.now) c.before.before.before.before.before.before.before.before.args.s.now c.before.before.before.before.before.loop.at (omega arith) (class_stop_lem c.before.before.before.before.before.before.before.before.args.stops.now (get_or c.before.before.before.before.before.before.before.before.args.s.now c.before.before.before.before.before.loop.at 0) (omega (arith, c.before.before.index.ensures)) (rw c.before.before.index.ensures.0 at c.if1.true)))
+returns : tie.Need-returns-then-stops-i-ne46 invariant-loop decreases-loop
+returns c = omega (arith, c.loop-at.invariant.1, run-stop (class_stop c.args.stops.now) c.args.s.now c.loop-at.at (omega arith) (class_stop_lem c.args.stops.now (get_or c.args.s.now c.loop-at.at 0) (omega (arith, c.index-i.ensures)) (rw c.index-i.ensures.0 at c.if-stops-i-ne46.true)))
 
-add_at : tie.Need-overflow-add-at invariant-loop decreases-loop
+add_at : tie.Need-overflow_add-at invariant-loop decreases-loop
 add_at c = omega arith
 
-loop-less : tie.Need-loop-smaller invariant-loop decreases-loop
+loop-less : tie.Need-loop-at-smaller invariant-loop decreases-loop
 loop-less c = omega arith
 
-loop-again : tie.Need-loop-preserved invariant-loop decreases-loop
-loop-again c = (omega arith, omega (arith, c.before.before.before.before.before.loop.invariant.1, run_on (class_stop c.before.before.before.before.before.before.before.before.args.stops.now) c.before.before.before.before.before.before.before.before.args.s.now c.before.before.before.before.before.loop.at (omega arith) (class_on c.before.before.before.before.before.before.before.before.args.stops.now (get_or c.before.before.before.before.before.before.before.before.args.s.now c.before.before.before.before.before.loop.at 0) (omega (arith, c.before.before.index.ensures)) (rw c.before.before.index.ensures.0 at c.if1.false))))
+loop-again : tie.Need-loop-at-preserved invariant-loop decreases-loop
+loop-again c = (omega arith, omega (arith, c.loop-at.invariant.1, run_on (class_stop c.args.stops.now) c.args.s.now c.loop-at.at (omega arith) (class_on c.args.stops.now (get_or c.args.s.now c.loop-at.at 0) (omega (arith, c.index-i.ensures)) (rw c.index-i.ensures.0 at c.if-stops-i-ne46.false))))
 
-returns-2 : tie.Need-returns-2 invariant-loop decreases-loop
-returns-2 c = omega (arith, c.before.loop.invariant.1, run_past (class_stop c.before.before.before.before.args.stops.now) c.before.before.before.before.args.s.now c.before.loop.at (omega arith))
+returns-2 : tie.Need-returns invariant-loop decreases-loop
+returns-2 c = omega (arith, c.loop-at.invariant.1, run_past (class_stop c.args.stops.now) c.args.s.now c.loop-at.at (omega arith))
 
-pub code-run_spec : {M : Type 1} → statement M
-code-run_spec =
+pub code_run_spec : {M : Type 1} → statement M
+code_run_spec =
     tie.close
     (tie.spec
     invariant-loop

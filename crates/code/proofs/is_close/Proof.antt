@@ -3,18 +3,16 @@ use Rattle.code.specs.Code.{closes}
 use Rattle.utf8.specs.Picks.{picks}
 use Rattle.code.proofs.is_close.Statement.{statement}
 use Rattle.code.proofs.is_close.Tie as tie
-use Rattle.code.proofs.is_close.Reads as reads
-use Rattle.code.proofs.is_close.Lts as lts
 
-returns : tie.Need-returns
+returns : tie.Need-returns-then-c-eq-RIGHT_PAREN
 unfolding closes
 returns c = search picks
 
-returns-2 : tie.Need-returns-2
+returns-2 : tie.Need-returns-then-c-eq-RIGHT_BRACKET
 unfolding closes
 returns-2 c = search picks
 
-returns-3 : tie.Need-returns-3
+returns-3 : tie.Need-returns
 unfolding closes
 returns-3 c = search picks
 

@@ -3,18 +3,16 @@ use Rattle.code.specs.Code.{opens}
 use Rattle.utf8.specs.Picks.{picks}
 use Rattle.code.proofs.is_open.Statement.{statement}
 use Rattle.code.proofs.is_open.Tie as tie
-use Rattle.code.proofs.is_open.Reads as reads
-use Rattle.code.proofs.is_open.Lts as lts
 
-returns : tie.Need-returns
+returns : tie.Need-returns-then-c-eq-LEFT_PAREN
 unfolding opens
 returns c = search picks
 
-returns-2 : tie.Need-returns-2
+returns-2 : tie.Need-returns-then-c-eq-LEFT_BRACKET
 unfolding opens
 returns-2 c = search picks
 
-returns-3 : tie.Need-returns-3
+returns-3 : tie.Need-returns
 unfolding opens
 returns-3 c = search picks
 

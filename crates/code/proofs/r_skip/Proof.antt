@@ -5,26 +5,21 @@ use Rattle.scan.specs.IfNext.{nexts}
 use Rattle.code.specs.Code.{r_skip}
 use Rattle.code.proofs.r_skip.Statement.{statement}
 use Rattle.code.proofs.r_skip.Tie as tie
-use Rattle.code.proofs.r_skip.Reads as reads
-use Rattle.code.proofs.r_skip.Lts as lts
-use Rattle.code.proofs.hash_skip.Reads as hash-skip-reads
-use Rattle.code.proofs.regex_start.Reads as regex-start-reads
-use Rattle.scan.proofs.is_next.Reads as is-next-reads
 
-is-next-requires : tie.Need-is-next-requires
+is-next-requires : tie.Need-is_next-requires
 is-next-requires c κs = search rules
 
-regex-start-requires : tie.Need-regex-start-requires
+regex-start-requires : tie.Need-regex_start-requires
 regex-start-requires c κs = search rules
 
-hash-skip-requires : tie.Need-hash-skip-requires
+hash-skip-requires : tie.Need-hash_skip-requires
 hash-skip-requires c κs = search rules
 
-returns : tie.Need-returns
+returns : tie.Need-returns-then-is_next
 unfolding r_skip
-returns c = let h = rw c.before.regex-start.ensures at c.hash-skip.ensures in search nexts
+returns c = let h = rw c.regex_start.ensures at c.hash_skip.ensures in search nexts
 
-returns-2 : tie.Need-returns-2
+returns-2 : tie.Need-returns
 unfolding r_skip
 returns-2 c = search nexts
 

@@ -7,7 +7,7 @@ use Rattle.commands.proofs.limit_onto.Tie as tie
 
 returns : tie.Need-returns
 unfolding limit_lines
-returns c = lay-two _ _ _ _ _ _ _ _ c.before.before.before.before.before.before.before.put.ensures (rw c.before.before.before.number_of_lem.ensures at c.before.before.limit-line.ensures)
+returns c = lay-two _ _ _ _ _ _ _ _ c.put-named.ensures (rw c.number_of.ensures at c.limit_line.ensures)
 
 pub limit_onto_spec : {M : Type 1} → statement M
 limit_onto_spec = tie.close (tie.spec (λ c κs. search rules) (λ c κs. search rules) (λ c κs. search rules) (λ c. search rules) returns)

@@ -5,14 +5,14 @@ use borrow.Author.Rules.{rules}
 use Rattle.commands.proofs.list.Statement.{statement}
 use Rattle.commands.proofs.list.Tie as tie
 
-returns : tie.Need-returns
-returns c = list_long _ _ _ _ _ _ _ _ _ _ _ _ _ _ _ c.before.before.before.before.before.before.before.before.before.before.before.before.before.header-onto.ensures c.before.before.before.before.before.before.before.before.before.before.if1.true (only_part _ _ _ _ _ _ _ _ _ _ _ _ refl c.before.before.before.before.before.before.before.before.before.if2.true (rw c.before.before.before.before.before.before.before.number_of_lem.ensures at c.before.before.before.before.before.before.error-line.ensures) c.before.before.limit-onto.ensures)
+returns : tie.Need-returns-then-part-eq0
+returns c = list_long _ _ _ _ _ _ _ _ _ _ _ _ _ _ _ c.header_onto-head.ensures c.if-text-gt-TEXT_LIMIT.true (only_part _ _ _ _ _ _ _ _ _ _ _ _ refl c.if-part-eq0.true (rw c.number_of.ensures at c.error_line-line.ensures) c.limit_onto-people.ensures)
 
-returns-2 : tie.Need-returns-2
-returns-2 c = list_long _ _ _ _ _ _ _ _ _ _ _ _ _ _ _ c.before.before.before.before.header-onto.ensures c.before.if1.true (no_part _ _ _ _ _ _ _ _ refl c.if2.false)
+returns-2 : tie.Need-returns-then-text-gt-TEXT_LIMIT
+returns-2 c = list_long _ _ _ _ _ _ _ _ _ _ _ _ _ _ _ c.header_onto-head.ensures c.if-text-gt-TEXT_LIMIT.true (no_part _ _ _ _ _ _ _ _ refl c.if-part-eq0.false)
 
-returns-3 : tie.Need-returns-3
-returns-3 c = list_run _ _ _ _ _ _ _ _ _ _ _ _ _ _ _ c.before.before.before.before.before.before.before.before.before.before.header-onto.ensures c.before.before.before.before.before.before.before.if1.false c.before.before.before.before.run-onto.ensures
+returns-3 : tie.Need-returns
+returns-3 c = list_run _ _ _ _ _ _ _ _ _ _ _ _ _ _ _ c.header_onto-head.ensures c.if-text-gt-TEXT_LIMIT.false c.run_onto.ensures
 
 pub list_spec : {M : Type 1} → statement M
 list_spec =

@@ -5,14 +5,14 @@ use borrow.Author.Rules.{rules}
 use Rattle.commands.proofs.part_onto.Statement.{statement}
 use Rattle.commands.proofs.part_onto.Tie as tie
 
-returns : tie.Need-returns
-returns c = held_none _ _ _ c.before.before.before.before.args.records.now _ _ (rw c.before.group-size.ensures.0 at c.if1.true)
+returns : tie.Need-returns-then-records-group_size
+returns c = held_none _ _ _ c.args.records.now _ _ (rw c.group_size.ensures.0 at c.if-records-group_size.true)
 
-chunk-onto-requires : tie.Need-chunk-onto-requires
-chunk-onto-requires c κs = let a = c.before.before.before.before.before.args in held_fits a.group a.count (length a.records.now) (rw c.before.before.group-size.ensures.0 at c.before.if1.false)
+chunk-onto-requires : tie.Need-chunk_onto-requires
+chunk-onto-requires c κs = let a = c.args in held_fits a.group a.count (length a.records.now) (rw c.group_size.ensures.0 at c.if-records-group_size.false)
 
-returns-2 : tie.Need-returns-2
-returns-2 c = let a = c.before.before.before.before.before.before.before.before.args in rw (held_all a.group a.part a.count a.records.now (rw c.before.before.before.before.before.group-size.ensures.0 at c.before.before.before.before.if1.false)) c.before.before.chunk-onto.ensures
+returns-2 : tie.Need-returns
+returns-2 c = let a = c.args in rw (held_all a.group a.part a.count a.records.now (rw c.group_size.ensures.0 at c.if-records-group_size.false)) c.chunk_onto.ensures
 
 pub part_onto_spec : {M : Type 1} → statement M
 part_onto_spec =

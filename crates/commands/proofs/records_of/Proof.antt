@@ -4,11 +4,11 @@ use borrow.Author.Rules.{rules}
 use Rattle.commands.proofs.records_of.Statement.{statement}
 use Rattle.commands.proofs.records_of.Tie as tie
 
-returns : tie.Need-returns
-returns c = let r = c.before.before.run-listed in rw c.before.before.before.before.before.enum_told.given.1 (five_of _ _ _ _ _ _ c.before.before.before.start-in.ensures r.ensures.0 r.ensures.1 c.before.before.before.before.before.before.before.before.before.requires)
+returns : tie.Need-returns-in-Five
+returns c = let r = c.run_listed in rw c.in-Five.is (five_of _ _ _ _ _ _ c.start_in.ensures r.ensures.0 r.ensures.1 c.requires)
 
-returns-2 : tie.Need-returns-2
-returns-2 c = let r = c.before.before.read-numbers in rw c.before.before.before.before.before.enum-told2.given.1 (nine_of _ _ _ _ _ _ c.before.before.before.start-in2.ensures r.ensures.0 r.ensures.1 c.before.before.before.before.before.before.before.before.before.requires)
+returns-2 : tie.Need-returns-in-Nine
+returns-2 c = let r = c.read_numbers in rw c.in-Nine.is (nine_of _ _ _ _ _ _ c.start_in-in-Nine.ensures r.ensures.0 r.ensures.1 c.requires)
 
 pub records_of_spec : {M : Type 1} → statement M
 records_of_spec =

@@ -6,17 +6,17 @@ use borrow.Author.Rules.{rules}
 use Rattle.commands.proofs.run_onto.Statement.{statement}
 use Rattle.commands.proofs.run_onto.Tie as tie
 
-chunk-onto-requires : tie.Need-chunk-onto-requires
-chunk-onto-requires c κs = let r = c.before.before.before.before.records-of in stored-fits c.before.before.before.before.before.before.before.before.before.before.before.args.group _ _ (stored-room _ _ _ _ _ _ r.ensures.0) (c.before.before.before.before.before.before.blank.ensures ∙ sym r.auto.1.1.0)
+chunk-onto-requires : tie.Need-chunk_onto-lines-requires
+chunk-onto-requires c κs = let r = c.records_of-ran in stored-fits c.args.group _ _ (stored-room _ _ _ _ _ _ r.ensures.0) (c.blank-records.ensures ∙ sym r.auto.records)
 
-returns : tie.Need-returns
+returns : tie.Need-returns-then-part-last
 returns c =
-    let r = c.before.before.before.before.before.before.before.before.before.before.before.before.before.before.before.before.records-of in
+    let r = c.records_of-ran in
     let h = ap (λ (x : Ran). x.how) r.ensures.0 in
-    run-last _ _ _ _ _ _ r.ensures.0 r.ensures.1 _ _ _ _ _ _ _ _ _ _ _ c.before.before.before.before.before.before.before.before.if1.true c.before.before.before.before.before.before.before.before.before.before.before.chunk-onto.ensures c.before.before.before.before.before.before.last-onto.ensures (rw h at c.before.before.people-onto.ensures)
+    run-last _ _ _ _ _ _ r.ensures.0 r.ensures.1 _ _ _ _ _ _ _ _ _ _ _ c.if-part-last.true c.chunk_onto-lines.ensures c.last_onto-end.ensures (rw h at c.people_onto-people.ensures)
 
-returns-2 : tie.Need-returns-2
-returns-2 c = let r = c.before.before.before.before.before.before.before.before.records-of in run_mid _ _ _ _ _ _ r.ensures.0 r.ensures.1 _ _ _ _ _ _ _ c.if1.false c.before.before.before.chunk-onto.ensures
+returns-2 : tie.Need-returns
+returns-2 c = let r = c.records_of-ran in run_mid _ _ _ _ _ _ r.ensures.0 r.ensures.1 _ _ _ _ _ _ _ c.if-part-last.false c.chunk_onto-lines.ensures
 
 pub run_onto_spec : {M : Type 1} → statement M
 run_onto_spec =

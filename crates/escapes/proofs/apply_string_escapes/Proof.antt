@@ -6,15 +6,15 @@ use Rattle.escapes.proofs.Place.{readable}
 use Rattle.escapes.proofs.apply_string_escapes.Statement.{statement}
 use Rattle.escapes.proofs.apply_string_escapes.Tie as tie
 
-returns : tie.Need-returns
+returns : tie.Need-returns-in-Refused
 unfolding applied
-returns c = let e = sym c.before.before.before.checks.ensures ∙ c.before.r.given.1 in (rw e, rw e)
+returns c = let e = sym c.checks.ensures ∙ c.in-Refused.is in (rw e, rw e)
 
-returns-2 : tie.Need-returns-2
+returns-2 : tie.Need-returns-in-Passed
 unfolding applied
 returns-2 c =
-    let e = sym c.before.before.before.before.before.before.checks.ensures ∙ c.before.before.before.before.enum_told.given.1 in
-    (rw e c.before.before.expand-into.ensures.0, rw e c.before.before.expand-into.ensures.1)
+    let e = sym c.checks.ensures ∙ c.in-Passed.is in
+    (rw e c.expand_into.ensures.0, rw e c.expand_into.ensures.1)
 
 pub apply_string_escapes_spec : {M : Type 1} → statement M
 apply_string_escapes_spec =
@@ -23,7 +23,7 @@ apply_string_escapes_spec =
     (λ c κs. search rules)
     (λ c. search rules)
     (λ c. search rules)
-    (λ c κs. readable _ _ (sym c.before.before.before.checks.ensures ∙ c.before.enum_told.given.1))
+    (λ c κs. readable _ _ (sym c.checks.ensures ∙ c.in-Passed.is))
     returns
     (λ c. search rules)
     returns-2)

@@ -10,6 +10,6 @@ pub beyond_spec : {M : Type 1} → statement M
 beyond_spec =
     tie.close
     (tie.spec
-    (λ c. sym (lt-ltb c.before.args.room (c.before.args.place + c.before.args.n) (omega arith)))
-    (λ c. sym (lt-ltb c.before.before.args.room (c.before.before.args.place + c.before.before.args.n) (omega arith)))
-    (λ c. sym (le-ltb c.before.before.args.room (c.before.before.args.place + c.before.before.args.n) (omega arith))))
+    (λ c. sym (lt-ltb c.args.room (c.args.place + c.args.n) (omega arith)))
+    (λ c. sym (lt-ltb c.args.room (c.args.place + c.args.n) (omega arith)))
+    (λ c. sym (le-ltb c.args.room (c.args.place + c.args.n) (omega arith))))

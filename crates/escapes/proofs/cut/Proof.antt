@@ -21,8 +21,8 @@ range n from to t e h =
     let b = both _ _ (sym e ∙ h) in
     record { ordered = leb-true _ _ b.0; within = leb-true _ _ b.1 }
 
-here : (c : tie.Then1) → Range (length c.before.before.before.args.s.now) c.before.before.before.args.start c.before.before.before.args.end
-here c = range _ _ _ _ c.before.inside.ensures c.if1.true
+here : (c : tie.Then-inside) → Range (length c.args.s.now) c.args.start c.args.end
+here c = range _ _ _ _ c.inside.ensures c.if-inside.true
 
 pub cut_spec : {M : Type 1} → statement M
 unfolding cut
@@ -34,5 +34,5 @@ cut_spec =
     (λ c. omega (arith, here c))
     (λ c. omega (arith, here c))
     (λ c. search rules)
-    (λ c. rw (sym c.before.before.inside.ensures ∙ c.before.if1.true))
-    (λ c. rw (sym c.before.before.inside.ensures ∙ c.before.if1.false)))
+    (λ c. rw (sym c.inside.ensures ∙ c.if-inside.true))
+    (λ c. rw (sym c.inside.ensures ∙ c.if-inside.false)))

@@ -10,12 +10,12 @@ unfolding digit
 digit_spec =
     tie.close
     (tie.spec
-    (λ c. from_range _ _ _ c.if1.true)
-    (λ c. rw c.if1.true)
-    (λ c. from_range _ _ _ c.if2.true)
+    (λ c. from_range _ _ _ c.if-c.true)
+    (λ c. rw c.if-c.true)
+    (λ c. from_range _ _ _ c.if-c-2.true)
     (λ c. search rules)
-    (λ c. rw (c.before.if1.false, c.if2.true))
-    (λ c. from_range _ _ _ c.if3.true)
+    (λ c. rw (c.if-c.false, c.if-c-2.true))
+    (λ c. from_range _ _ _ c.if-c-3.true)
     (λ c. search rules)
-    (λ c. rw (c.before.before.if1.false, c.before.if2.false, c.if3.true))
-    (λ c. rw (c.before.before.if1.false, c.before.if2.false, c.if3.false)))
+    (λ c. rw (c.if-c.false, c.if-c-2.false, c.if-c-3.true))
+    (λ c. rw (c.if-c.false, c.if-c-2.false, c.if-c-3.false)))

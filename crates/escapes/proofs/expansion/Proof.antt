@@ -11,5 +11,5 @@ expansion_spec =
     (λ c κs. search rules)
     (λ c. search rules)
     (λ c κs. search rules)
-    (λ c. rw c.before.enum_told.given.1 c.cut.ensures)
-    (λ c. rw c.before.enum-told2.given.1 c.cut2.ensures))
+    (λ c. rw c.in-Text.is c.cut.ensures)
+    (λ c. rw c.in-Buffer.is c.cut-in-Buffer.ensures))

@@ -11,5 +11,5 @@ expansion_check_spec =
     (λ c κs. search rules)
     (λ c. search rules)
     (λ c κs. search rules)
-    (λ c. rw c.before.enum_told.given.1 c.range-check.ensures)
-    (λ c. rw c.before.enum-told2.given.1 c.range-check2.ensures))
+    (λ c. rw c.in-Text.is c.range_check.ensures)
+    (λ c. rw c.in-Buffer.is c.range_check-in-Buffer.ensures))

@@ -10,17 +10,17 @@ use Rattle.escapes.proofs.Laws.{has_next, has_end}
 use Rattle.escapes.proofs.has_backslash.Statement.{statement}
 use Rattle.escapes.proofs.has_backslash.Tie as tie
 
-abbrev invariant-loop : tie.invariant-loop
+abbrev invariant-loop : tie.invariant-loop-i
 invariant-loop s found₀ i₀ found i = has_byte 'backslash s ≡ (found || has_byte 'backslash (drop i s))
 
-abbrev decreases-loop : tie.decreases-loop
+abbrev decreases-loop : tie.decreases-loop-i
 decreases-loop s found₀ i₀ found i = length s - i
 
-loop-again : tie.Need-loop-preserved invariant-loop decreases-loop
-loop-again c = c.before.before.loop.invariant ∙ has_next 'backslash _ _ c.before.before.loop.found c.before.loop-test.true
+loop-again : tie.Need-loop-i-preserved invariant-loop decreases-loop
+loop-again c = c.loop-i.invariant ∙ has_next 'backslash _ _ c.loop-i.found c.loop-i-test.true
 
 returns : tie.Need-returns invariant-loop decreases-loop
-returns c = sym (c.before.loop.invariant ∙ has_end 'backslash c.before.before.args.s.now c.before.loop.i c.before.loop.found (omega arith))
+returns c = sym (c.loop-i.invariant ∙ has_end 'backslash c.args.s.now c.loop-i.i c.loop-i.found (omega arith))
 
 pub has_backslash_spec : {M : Type 1} → statement M
 has_backslash_spec =

@@ -10,25 +10,25 @@ use Rattle.escapes.proofs.Laws.{Reached, reach-start, reach-end, reach_byte, rea
 use Rattle.escapes.proofs.measure.Statement.{statement}
 use Rattle.escapes.proofs.measure.Tie as tie
 
-abbrev invariant-loop : tie.invariant-loop
+abbrev invariant-loop : tie.invariant-loop-i
 invariant-loop s idx0 i₀ n₀ i n = (acc : List ℕ) × Reached s idx0 i n acc
 
-abbrev decreases-loop : tie.decreases-loop
+abbrev decreases-loop : tie.decreases-loop-i
 decreases-loop s idx0 i₀ n₀ i n = length s - i
 
-here : (c : tie.After-known-told2 invariant-loop decreases-loop)
-    → Turn c.before.before.before.before.before.before.before.args.s.now c.before.before.before.before.before.before.before.args.idx0 c.before.before.before.before.before.loop.i c.before.width.given.0.0 c.before.width.given.0.1.0
-here c = turn _ _ _ _ _ c.before.before.before.before.loop-test.true (sym c.before.before.before.read_at.ensures ∙ c.before.width.given.1)
+here : (c : tie.In-Byte invariant-loop decreases-loop)
+    → Turn c.args.s.now c.args.idx0 c.loop-i.i c.in-Byte.byte c.in-Byte.width
+here c = turn _ _ _ _ _ c.loop-i-test.true (sym c.read_at.ensures ∙ c.in-Byte.is)
 
-returns : tie.Need-returns invariant-loop decreases-loop
+returns : tie.Need-returns-in-Bad invariant-loop decreases-loop
 returns c =
-    rw (reach-bad _ c.before.before.before.before.before.loop.invariant.1 c.before.before.before.before.loop-test.true (sym c.before.before.before.read_at.ensures ∙ c.before.r.given.1))
+    rw (reach-bad _ c.loop-i.invariant.1 c.loop-i-test.true (sym c.read_at.ensures ∙ c.in-Bad.is))
 
-add-n : tie.Need-overflow-add-n invariant-loop decreases-loop
-add-n c = let r = c.before.before.before.before.before.loop.invariant.1 in omega (arith, here c, r.few)
+add-n : tie.Need-overflow_add-n invariant-loop decreases-loop
+add-n c = let r = c.loop-i.invariant.1 in omega (arith, here c, r.few)
 
-returns-2 : tie.Need-returns-2 invariant-loop decreases-loop
-returns-2 c = let r = c.before.loop.invariant.1 in rw (reach-end r c.loop-test.false, r.count)
+returns-2 : tie.Need-returns invariant-loop decreases-loop
+returns-2 c = let r = c.loop-i.invariant.1 in rw (reach-end r c.loop-i-test.false, r.count)
 
 pub measure_spec : {M : Type 1} → statement M
 measure_spec =
@@ -44,5 +44,5 @@ measure_spec =
     (λ c. omega (arith, here c))
     add-n
     (λ c. omega (arith, here c))
-    (λ c. (_, reach_byte c.before.before.before.before.before.loop.invariant.1 (here c)))
+    (λ c. (_, reach_byte c.loop-i.invariant.1 (here c)))
     returns-2)

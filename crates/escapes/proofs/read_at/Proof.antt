@@ -5,7 +5,7 @@ use Rattle.escapes.specs.Escapes.{stands}
 use Rattle.escapes.proofs.read_at.Statement.{statement}
 use Rattle.escapes.proofs.read_at.Tie as tie
 
-pub read-at_spec : {M : Type 1} → statement M
+pub read_at_spec : {M : Type 1} → statement M
 unfolding stands
-read-at_spec =
+read_at_spec =
     tie.close (tie.spec (λ c. search rules) (λ c κs. search rules) (λ c. search picks) (λ c. search picks))

@@ -11,40 +11,40 @@ use Rattle.escapes.proofs.Laws.{Reached, reach-start, reach_byte, reach-bad, one
 use Rattle.escapes.proofs.write.Statement.{statement}
 use Rattle.escapes.proofs.write.Tie as tie
 
-abbrev invariant-loop : tie.invariant-loop
+abbrev invariant-loop : tie.invariant-loop-i
 invariant-loop s idx0 out₀ i₀ n₀ out i n =
     Reached s idx0 i n (take n out) × (drop n out ≡ drop n out₀) × (length out ≡ length out₀)
 
-abbrev decreases-loop : tie.decreases-loop
+abbrev decreases-loop : tie.decreases-loop-i
 decreases-loop s idx0 out₀ i₀ n₀ out i n = length s - i
 
-here : (c : tie.After-known-told invariant-loop decreases-loop)
-    → Turn c.before.before.before.before.before.before.before.before.args.s.now c.before.before.before.before.before.before.before.before.args.idx0 c.before.before.before.before.before.loop.i c.before.byte.given.0.0 c.before.byte.given.0.1.0
-here c = turn _ _ _ _ _ c.before.before.before.before.loop-test.true (sym c.before.before.before.read_at.ensures ∙ c.before.byte.given.1)
+here : (c : tie.In-Byte invariant-loop decreases-loop)
+    → Turn c.args.s.now c.args.idx0 c.loop-i.i c.in-Byte.byte c.in-Byte.width
+here c = turn _ _ _ _ _ c.loop-i-test.true (sym c.read_at.ensures ∙ c.in-Byte.is)
 
 -- there is room for one more byte
-room : (c : tie.After-known-told invariant-loop decreases-loop) → c.before.before.before.before.before.loop.n < length c.before.before.before.before.before.loop.out
-room c = omega (arith, one-part _ (reach_byte c.before.before.before.before.before.loop.invariant.0 (here c)) c.before.before.before.before.before.before.before.before.requires.1, c.before.before.before.before.before.loop.invariant.2)
+room : (c : tie.In-Byte invariant-loop decreases-loop) → c.loop-i.n < length c.loop-i.out
+room c = omega (arith, one-part _ (reach_byte c.loop-i.invariant.0 (here c)) c.requires.1, c.loop-i.invariant.2)
 
-returns : tie.Need-returns invariant-loop decreases-loop
+returns : tie.Need-returns-in-Bad invariant-loop decreases-loop
 returns c =
-    let e = reach-bad _ c.before.before.before.before.loop.invariant.0 c.before.before.before.loop-test.true (sym c.before.before.read_at.ensures ∙ c.enum_told.given.1) in
-    let z : false ≡ true = rw e at c.before.before.before.before.before.before.before.requires.1 in
+    let e = reach-bad _ c.loop-i.invariant.0 c.loop-i-test.true (sym c.read_at.ensures ∙ c.in-Bad.is) in
+    let z : false ≡ true = rw e at c.requires.1 in
     cc
 
-add-n : tie.Need-overflow-add-n invariant-loop decreases-loop
-add-n c = let r = c.before.before.before.before.before.loop.invariant.0 in omega (arith, here c, r.few)
+add-n : tie.Need-overflow_add-n invariant-loop decreases-loop
+add-n c = let r = c.loop-i.invariant.0 in omega (arith, here c, r.few)
 
-loop-again : tie.Need-loop-preserved invariant-loop decreases-loop
+loop-again : tie.Need-loop-i-preserved invariant-loop decreases-loop
 loop-again c =
-    let o = c.before.before.before.before.before.loop in (
+    let o = c.loop-i in (
       wrote _ _ _ (room c) (reach_byte o.invariant.0 (here c)),
-      rest_wrote o.n o.out c.before.before.before.before.before.before.before.before.args.out.now _ o.invariant.1,
+      rest_wrote o.n o.out c.args.out.now _ o.invariant.1,
       simp length-set o.invariant.2,
     )
 
-returns-2 : tie.Need-returns-2 invariant-loop decreases-loop
-returns-2 c = all_wrote _ _ _ c.before.loop.invariant.0 c.before.loop.invariant.1 c.loop-test.false
+returns-2 : tie.Need-returns invariant-loop decreases-loop
+returns-2 c = all_wrote _ _ _ c.loop-i.invariant.0 c.loop-i.invariant.1 c.loop-i-test.false
 
 pub write_spec : {M : Type 1} → statement M
 write_spec =
@@ -55,7 +55,7 @@ write_spec =
     (λ c. (reach-start _ _, refl, refl))
     (λ c κs. search rules)
     (λ c. search rules)
-    (λ c. c.before.before.before.before.loop.invariant.2)
+    (λ c. c.loop-i.invariant.2)
     returns
     (λ c. search rules)
     room
@@ -63,5 +63,5 @@ write_spec =
     add-n
     (λ c. omega (arith, here c))
     loop-again
-    (λ c. c.before.loop.invariant.2)
+    (λ c. c.loop-i.invariant.2)
     returns-2)

@@ -7,7 +7,7 @@ use Rattle.files.proofs.file_onto.Tie as tie
 
 returns : tie.Need-returns
 unfolding file_lines
-returns c = lay-two _ _ _ _ _ _ _ _ c.before.before.before.before.before.before.before.put.ensures (rw c.before.before.before.number_of_lem.ensures at c.before.before.place-line.ensures)
+returns c = lay-two _ _ _ _ _ _ _ _ c.put-named.ensures (rw c.number_of.ensures at c.place_line.ensures)
 
 pub file_onto_spec : {M : Type 1} → statement M
 file_onto_spec = tie.close (tie.spec (λ c κs. search rules) (λ c κs. search rules) (λ c κs. search rules) (λ c. search rules) returns)

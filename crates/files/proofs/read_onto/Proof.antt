@@ -4,17 +4,17 @@ use borrow.Author.Rules.{rules}
 use Rattle.files.proofs.read_onto.Statement.{statement}
 use Rattle.files.proofs.read_onto.Tie as tie
 
-returns : tie.Need-returns
-returns c = let l = c.before.before.before.before.before.before.before.before.before.before.before.before.before.before.read-listed in read-end _ _ _ _ l.ensures.0 l.ensures.1 (wide c.before.before.before.before.before.before.before.before.before.before.before.before.before.before.before.before.blank.result c.before.before.before.before.before.before.before.before.before.before.before.before.before.before.before.before.blank.ensures) (long_held c.before.before.before.before.before.before.before.before.before.before.before.before.before.before.before.before.blank.result l.new.1.0 l.auto.1.0 c.before.before.before.before.before.before.before.before.before.before.before.before.before.before.before.before.blank.ensures) _ _ _ _ _ _ c.before.before.before.before.before.before.before.before.before.before.before.n.given.1 _ _ _ _ c.before.before.before.before.if1.true c.before.before.before.before.before.before.before.part-onto.ensures c.before.before.records-line.ensures
+returns : tie.Need-returns-then-part-last
+returns c = let l = c.read_listed in read-end _ _ _ _ l.ensures.0 l.ensures.1 (wide c.blank-records.result c.blank-records.ensures) (long_held c.blank-records.result l.new.records l.auto.records c.blank-records.ensures) _ _ _ _ _ _ c.in-Done.is _ _ _ _ c.if-part-last.true c.part_onto-lines.ensures c.records_line-end.ensures
 
-returns-2 : tie.Need-returns-2
-returns-2 c = read-not _ _ c.before.before.before.before.before.before.before.before.before.before.before.before.before.before.read-listed.ensures.0 _ _ _ _ _ _ c.before.before.before.before.before.before.before.before.before.before.before.r.given.1 _ _ _ _ c.before.before.before.before.before.before.before.before.before.if2.true (rw c.before.before.before.before.before.before.before.number_of_lem.ensures at c.before.before.before.before.before.before.refusal-line.ensures) c.before.before.file-onto.ensures
+returns-2 : tie.Need-returns-then-part-eq0
+returns-2 c = read-not _ _ c.read_listed.ensures.0 _ _ _ _ _ _ c.in-Refused.is _ _ _ _ c.if-part-eq0.true (rw c.number_of.ensures at c.refusal_line-end.ensures) c.file_onto-people.ensures
 
-returns-3 : tie.Need-returns-3
-returns-3 c = let l = c.before.before.before.before.before.before.before.before.before.before.read-listed in read_mid _ _ _ _ l.ensures.0 l.ensures.1 (wide c.before.before.before.before.before.before.before.before.before.before.before.before.blank.result c.before.before.before.before.before.before.before.before.before.before.before.before.blank.ensures) (long_held c.before.before.before.before.before.before.before.before.before.before.before.before.blank.result l.new.1.0 l.auto.1.0 c.before.before.before.before.before.before.before.before.before.before.before.before.blank.ensures) _ _ _ _ _ _ c.before.before.before.before.before.before.before.n.given.1 _ _ c.if1.false c.before.before.before.part-onto.ensures
+returns-3 : tie.Need-returns-else-part-last
+returns-3 c = let l = c.read_listed in read_mid _ _ _ _ l.ensures.0 l.ensures.1 (wide c.blank-records.result c.blank-records.ensures) (long_held c.blank-records.result l.new.records l.auto.records c.blank-records.ensures) _ _ _ _ _ _ c.in-Done.is _ _ c.if-part-last.false c.part_onto-lines.ensures
 
-returns-4 : tie.Need-returns-4
-returns-4 c = read-after _ _ c.before.before.before.before.before.read-listed.ensures.0 _ _ _ _ _ _ c.before.before.r.given.1 c.if2.false
+returns-4 : tie.Need-returns-else-part-eq0
+returns-4 c = read-after _ _ c.read_listed.ensures.0 _ _ _ _ _ _ c.in-Refused.is c.if-part-eq0.false
 
 pub read_onto_spec : {M : Type 1} → statement M
 read_onto_spec =

@@ -6,14 +6,14 @@ use borrow.Author.Rules.{rules}
 use Rattle.files.proofs.unpack.Statement.{statement}
 use Rattle.files.proofs.unpack.Tie as tie
 
-returns : tie.Need-returns
-returns c = unpack_long _ _ _ _ _ _ _ _ _ _ _ _ _ c.before.before.before.before.before.before.before.before.before.before.before.before.before.header-onto.ensures c.before.before.before.before.before.before.before.before.before.before.if1.true (only_part _ _ _ _ _ _ _ _ _ _ _ _ refl c.before.before.before.before.before.before.before.before.before.if2.true (rw c.before.before.before.before.before.before.before.number_of_lem.ensures at c.before.before.before.before.before.before.refusal-line.ensures) c.before.before.limit-onto.ensures)
+returns : tie.Need-returns-then-part-eq0
+returns c = unpack_long _ _ _ _ _ _ _ _ _ _ _ _ _ c.header_onto-head.ensures c.if-file-gt-FILE_LIMIT.true (only_part _ _ _ _ _ _ _ _ _ _ _ _ refl c.if-part-eq0.true (rw c.number_of.ensures at c.refusal_line-line.ensures) c.limit_onto-people.ensures)
 
-returns-2 : tie.Need-returns-2
-returns-2 c = unpack_long _ _ _ _ _ _ _ _ _ _ _ _ _ c.before.before.before.before.header-onto.ensures c.before.if1.true (no_part _ _ _ _ _ _ _ _ refl c.if2.false)
+returns-2 : tie.Need-returns-then-file-gt-FILE_LIMIT
+returns-2 c = unpack_long _ _ _ _ _ _ _ _ _ _ _ _ _ c.header_onto-head.ensures c.if-file-gt-FILE_LIMIT.true (no_part _ _ _ _ _ _ _ _ refl c.if-part-eq0.false)
 
-returns-3 : tie.Need-returns-3
-returns-3 c = unpack_read _ _ _ _ _ _ _ _ _ _ _ _ _ c.before.before.before.before.before.before.before.before.before.before.header-onto.ensures c.before.before.before.before.before.before.before.if1.false c.before.before.before.before.read-onto.ensures
+returns-3 : tie.Need-returns
+returns-3 c = unpack_read _ _ _ _ _ _ _ _ _ _ _ _ _ c.header_onto-head.ensures c.if-file-gt-FILE_LIMIT.false c.read_onto.ensures
 
 pub unpack_spec : {M : Type 1} → statement M
 unpack_spec =

@@ -6,13 +6,13 @@ use borrow.Author.Tests.{le-ltb, lt-ltb}
 use Rattle.filing.proofs.refusal_onto.Statement.{statement}
 use Rattle.filing.proofs.refusal_onto.Tie as tie
 
-returns : tie.Need-returns
+returns : tie.Need-returns-then-number-gt12
 unfolding refusal_lines
-returns c = let n = c.before.before.before.before.before.before.before.before.before.number_of_lem.ensures in rw (← n, lt-ltb _ _ c.before.before.before.before.before.before.before.before.if1.true) (lay-two _ _ _ _ _ _ _ _ c.before.before.before.before.before.before.put.ensures c.before.before.place-line.ensures)
+returns c = let n = c.number_of-number.ensures in rw (← n, lt-ltb _ _ c.if-number-gt12.true) (lay-two _ _ _ _ _ _ _ _ c.put-named.ensures c.place_line.ensures)
 
-returns-2 : tie.Need-returns-2
+returns-2 : tie.Need-returns
 unfolding refusal_lines
-returns-2 c = let n = c.before.before.before.before.before.number_of_lem.ensures in rw (← n, le-ltb _ _ c.before.before.before.before.if1.false) c.before.before.refused-onto.ensures
+returns-2 c = let n = c.number_of-number.ensures in rw (← n, le-ltb _ _ c.if-number-gt12.false) c.refused_onto.ensures
 
 pub refusal_onto_spec : {M : Type 1} → statement M
 refusal_onto_spec = tie.close (tie.spec (λ c κs. tt) (λ c κs. tt) (λ c κs. tt) (λ c. search rules) returns (λ c κs. tt) (λ c. search rules) returns-2)

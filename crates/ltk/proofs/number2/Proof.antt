@@ -4,27 +4,24 @@ use native.Mathlib.Omega.{arith}
 use Rattle.ltk.proofs.Numbers.{number_2}
 use Rattle.ltk.proofs.number2.Statement.{statement}
 use Rattle.ltk.proofs.number2.Tie as tie
-use Rattle.ltk.proofs.number2.Reads as reads
-use Rattle.ltk.proofs.number2.Lts as lts
-use Rattle.ltk.proofs.byte.Reads as byte-Reads
 
-byte-requires : tie.Need-byte-requires
+byte-requires : tie.Need-byte-low-requires
 byte-requires c κs = search rules
 
-add-byte : tie.Need-overflow-add-byte
+add-byte : tie.Need-overflow_add-p
 add-byte c = search rules
 
-byte-requires-2 : tie.Need-byte-requires-2
+byte-requires-2 : tie.Need-byte-high-requires
 byte-requires-2 c κs = search rules
 
-mul-result : tie.Need-overflow-mul-result
+mul-result : tie.Need-overflow_mul-result
 mul-result c = search rules
 
-add-result : tie.Need-overflow-add-result
+add-result : tie.Need-overflow_add-result
 add-result c = search rules
 
 returns : tie.Need-returns
-returns c = let a = c.before.before.before.args in (omega (arith, number_2 a.s.now a.p), omega arith)
+returns c = let a = c.args in (omega (arith, number_2 a.s.now a.p), omega arith)
 
 pub number2_spec : {M : Type 1} → statement M
 number2_spec =

@@ -7,36 +7,34 @@ use borrow.Author.Tests.{lt-ltb, le-ltb}
 use Rattle.ltk.specs.Steps.{planned}
 use Rattle.ltk.proofs.plan_for.Statement.{statement}
 use Rattle.ltk.proofs.plan_for.Tie as tie
-use Rattle.ltk.proofs.plan_for.Reads as reads
-use Rattle.ltk.proofs.plan_for.Lts as lts
 
-returns : tie.Need-returns
+returns : tie.Need-returns-then-n-ge-COUNT_LIMIT
 unfolding planned
-returns c = simp (le-ltb _ _ c.if1.true)
+returns c = simp (le-ltb _ _ c.if-n-ge-COUNT_LIMIT.true)
 
-enum-known-a : tie.Need-enum-known-a
+enum-known-a : tie.Need-enum_known-a
 enum-known-a c = search rules
 
-mul-size : tie.Need-overflow-mul-size
-mul-size c = let m = rw c.before.a.given.1 at c.before.before.before.before.requires in omega arith
+mul-size : tie.Need-overflow_mul-size
+mul-size c = let m = rw c.in-Done.is at c.requires in omega arith
 
-add-size : tie.Need-overflow-add-size
-add-size c = let m = rw c.before.a.given.1 at c.before.before.before.before.requires in omega arith
+add-size : tie.Need-overflow_add-size
+add-size c = let m = rw c.in-Done.is at c.requires in omega arith
 
-returns-2 : tie.Need-returns-2
+returns-2 : tie.Need-returns-then-room-size
 unfolding planned
-returns-2 c = rw c.before.before.a.given.1 (simp (lt-ltb _ _ c.before.before.before.before.if1.false, lt-ltb _ _ c.if2.true))
+returns-2 c = rw c.in-Done.is (simp (lt-ltb _ _ c.if-n-ge-COUNT_LIMIT.false, lt-ltb _ _ c.if-room-size.true))
 
-enum-known-a-2 : tie.Need-enum-known-a-2
+enum-known-a-2 : tie.Need-enum_known-a-in-Refused-1
 enum-known-a-2 c = search rules
 
-returns-3 : tie.Need-returns-3
+returns-3 : tie.Need-returns-else-room-size
 unfolding planned
-returns-3 c = rw c.before.before.a.given.1 (simp (lt-ltb _ _ c.before.before.before.before.if1.false, le-ltb _ _ c.if2.false))
+returns-3 c = rw c.in-Done.is (simp (lt-ltb _ _ c.if-n-ge-COUNT_LIMIT.false, le-ltb _ _ c.if-room-size.false))
 
-returns-4 : tie.Need-returns-4
+returns-4 : tie.Need-returns-in-Refused
 unfolding planned
-returns-4 c = rw c.before.a2.given.1 (simp (lt-ltb _ _ c.before.before.before.if1.false))
+returns-4 c = rw c.in-Refused.is (simp (lt-ltb _ _ c.if-n-ge-COUNT_LIMIT.false))
 
 pub plan_for_spec : {M : Type 1} → statement M
 plan_for_spec =

@@ -1,7 +1,7 @@
 -- `ltk::write_numbers` meets its contract.
 use borrow.Author.Rules.{rules}
 use Prim.Native.Nat.{ℕ, ◌≤◌, ◌/◌}
-use mathlib.Core.Path.{◌≡◌, sym, ap, ◌∙◌}
+use mathlib.Core.Path.{◌≡◌, ap, ◌∙◌}
 use native.Mathlib.Omega.{arith}
 use mathlib.Core.List.{List}
 use lib.ListN.{length}
@@ -13,57 +13,51 @@ use Rattle.ltk.specs.Steps.{planned}
 use Rattle.ltk.proofs.Writing.{kept_plan, few_judged, too_long, room_for_header, room-left, all_written}
 use Rattle.ltk.proofs.write_numbers.Statement.{statement}
 use Rattle.ltk.proofs.write_numbers.Tie as tie
-use Rattle.ltk.proofs.write_numbers.Reads as reads
-use Rattle.ltk.proofs.write_numbers.Lts as lts
-use Rattle.ltk.proofs.begin_write.Reads as begin-write-reads
-use Rattle.ltk.proofs.plan_for.Reads as plan-for-reads
-use Rattle.ltk.proofs.put_groups.Reads as put-groups-reads
-use Rattle.ltk.proofs.test_numbers.Reads as test-numbers-reads
 
-returns : tie.Need-returns
-returns c = too_long _ _ _ c.if1.true
+returns : tie.Need-returns-then-count-ge-COUNT_LIMIT
+returns c = too_long _ _ _ c.if-count-ge-COUNT_LIMIT.true
 
-test-numbers-requires : tie.Need-test-numbers-requires
+test-numbers-requires : tie.Need-test_numbers-requires
 test-numbers-requires c κs = search rules
 
-plan-for-requires : tie.Need-plan-for-requires
-plan-for-requires c κs = few_judged _ _ _ c.test-numbers.ensures
+plan-for-requires : tie.Need-plan_for-p-requires
+plan-for-requires c κs = few_judged _ _ _ c.test_numbers.ensures
 
-begin-write-requires : tie.Need-begin-write-requires
+begin-write-requires : tie.Need-begin_write-requires
 begin-write-requires c κs =
-    let a = c.before.before.before.before.before.before.args in
+    let a = c.args in
     let f = entry_in a.list.now in
     let n = length a.list.now / group_size in
-    let p = c.before.plan-for in
+    let p = c.plan_for-p in
     let room = length a.out.now in
-    let k = kept_plan f n room p.result (p.ensures ∙ ap (λ (x : Answer). planned n x room) c.before.before.test-numbers.ensures) in
+    let k = kept_plan f n room p.result (p.ensures ∙ ap (λ (x : Answer). planned n x room) c.test_numbers.ensures) in
     room_for_header _ room p.result k
 
-put-groups-requires : tie.Need-put-groups-requires
+put-groups-requires : tie.Need-put_groups-requires
 put-groups-requires c κs =
-    let a = c.before.before.before.before.before.before.before.before.before.before.args in
+    let a = c.args in
     let f = entry_in a.list.now in
     let n = length a.list.now / group_size in
-    let p = c.before.before.before.before.before.plan-for in
+    let p = c.plan_for-p in
     let room = length a.out.now in
-    let k = kept_plan f n room p.result (p.ensures ∙ ap (λ (x : Answer). planned n x room) c.before.before.before.before.before.before.test-numbers.ensures) in
-    let r = room-left f n a.out.now p.result k _ c.before.before.before.begin-write.ensures in
+    let k = kept_plan f n room p.result (p.ensures ∙ ap (λ (x : Answer). planned n x room) c.test_numbers.ensures) in
+    let r = room-left f n a.out.now p.result k _ c.begin_write.ensures in
     (omega (arith, r.1), r.0)
 
-same_length : tie.Need-same-length
+same_length : tie.Need-shape_of-out
 same_length c = search rules
 
-returns-2 : tie.Need-returns-2
+returns-2 : tie.Need-returns
 returns-2 c =
-    let a = c.before.before.before.before.before.before.before.before.before.before.before.before.before.args in
+    let a = c.args in
     let f = entry_in a.list.now in
     let n = length a.list.now / group_size in
-    let p = c.before.before.before.before.before.before.before.before.plan-for in
+    let p = c.plan_for-p in
     let room = length a.out.now in
-    let k = kept_plan f n room p.result (p.ensures ∙ ap (λ (x : Answer). planned n x room) c.before.before.before.before.before.before.before.before.before.test-numbers.ensures) in (
+    let k = kept_plan f n room p.result (p.ensures ∙ ap (λ (x : Answer). planned n x room) c.test_numbers.ensures) in (
       k.answer-is,
-      c.before.before.put-groups.ensures
-          ∙ ap (λ (o : List ℕ). sets o header_size (records_bytes (listed f 0 p.result.count))) c.before.before.before.before.before.before.begin-write.ensures
+      c.put_groups.ensures
+          ∙ ap (λ (o : List ℕ). sets o header_size (records_bytes (listed f 0 p.result.count))) c.begin_write.ensures
           ∙ all_written f n a.out.now p.result k,
     )
 

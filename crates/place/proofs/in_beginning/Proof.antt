@@ -1,39 +1,35 @@
 -- `place::in_beginning` meets its contract.
 use mathlib.Core.Path.{sym, ◌∙◌}
 use lib.Seq.{length-take-le}
-use Rattle.utf8.specs.Laws.{bad-within}
+use Rattle.utf8.proofs.Laws.{bad-within}
 use Rattle.place.specs.Beginning.{beginning_asked, beginning_valid}
 use borrow.Author.Rules.{rules}
 use Rattle.place.proofs.in_beginning.Statement.{statement}
 use Rattle.place.proofs.in_beginning.Tie as tie
-use Rattle.place.proofs.in_beginning.Reads as reads
-use Rattle.place.proofs.in_beginning.Lts as lts
-use Rattle.place.proofs.walk.Reads as walk-reads
-use Rattle.utf8.proofs.check.Reads as check-reads
 
 check-requires : tie.Need-check-requires
 check-requires c κs = search rules
 
-enum_told : tie.Need-enum-told
+enum_told : tie.Need-enum_told-1
 enum_told c = search rules
 
 walk-requires : tie.Need-walk-requires
-walk-requires c κs = sym c.before.before.check.ensures ∙ c.enum_told.given.1
+walk-requires c κs = sym c.check.ensures ∙ c.in-Valid.is
 
-enum-known-end : tie.Need-enum-known-end
+enum-known-end : tie.Need-enum_known-end
 enum-known-end c = search rules
 
-slice-aggregate-walk : tie.Need-slice-aggregate-walk
-slice-aggregate-walk c = sym (length-take-le _ _ (bad-within _ _ (sym c.before.before.before.before.check.ensures ∙ c.before.before.end.given.1)))
+slice-aggregate-walk : tie.Need-slice_bounds-walk-end
+slice-aggregate-walk c = sym (length-take-le _ _ (bad-within _ _ (sym c.check.ensures ∙ c.in-Bad.is)))
 
-walk-requires-2 : tie.Need-walk-requires-2
-walk-requires-2 c κs = beginning_valid _ _ (sym c.before.before.before.before.check.ensures ∙ c.before.before.end.given.1)
+walk-requires-2 : tie.Need-walk-requires-in-Bad
+walk-requires-2 c κs = beginning_valid _ _ (sym c.check.ensures ∙ c.in-Bad.is)
 
-returns : tie.Need-returns
+returns : tie.Need-returns-in-Valid
 returns c = search rules
 
-returns-2 : tie.Need-returns-2
-returns-2 c = c.walk2.ensures ∙ beginning_asked _ _ (sym c.before.before.before.before.before.check.ensures ∙ c.before.before.before.end.given.1) _
+returns-2 : tie.Need-returns-in-Bad
+returns-2 c = c.walk-in-Bad.ensures ∙ beginning_asked _ _ (sym c.check.ensures ∙ c.in-Bad.is) _
 
 pub in_beginning_spec : {M : Type 1} → statement M
 in_beginning_spec =

@@ -6,30 +6,26 @@ use Rattle.place.specs.Place.{answered, reported}
 use borrow.Author.Rules.{rules}
 use Rattle.place.proofs.line_column.Statement.{statement}
 use Rattle.place.proofs.line_column.Tie as tie
-use Rattle.place.proofs.line_column.Reads as reads
-use Rattle.place.proofs.line_column.Lts as lts
-use Rattle.place.proofs.walk.Reads as walk-reads
-use Rattle.record.proofs.checks.Reads as checks-reads
 
 checks-requires : tie.Need-checks-requires
 checks-requires c κs = search rules
 
-enum_told : tie.Need-enum-told
+enum_told : tie.Need-enum_told-1
 enum_told c = search rules
 
 walk-requires : tie.Need-walk-requires
-walk-requires c κs = (allowed _ _ (sym c.before.before.checks.ensures ∙ c.enum_told.given.1)).valid
+walk-requires c κs = (allowed _ _ (sym c.checks.ensures ∙ c.in-Passed.is)).valid
 
-enum-known-r : tie.Need-enum-known-r
+enum-known-r : tie.Need-enum_known-r
 enum-known-r c = search rules
 
-returns : tie.Need-returns
+returns : tie.Need-returns-in-Passed
 unfolding answered reported
-returns c = rw (sym c.before.before.before.checks.ensures ∙ c.before.enum_told.given.1) (ap At c.walk.ensures)
+returns c = rw (sym c.checks.ensures ∙ c.in-Passed.is) (ap At c.walk.ensures)
 
-returns-2 : tie.Need-returns-2
+returns-2 : tie.Need-returns-in-Refused
 unfolding answered reported
-returns-2 c = rw (sym c.before.before.before.checks.ensures ∙ c.before.r.given.1) refl
+returns-2 c = rw (sym c.checks.ensures ∙ c.in-Refused.is) refl
 
 pub line_column_spec : {M : Type 1} → statement M
 line_column_spec =

@@ -6,34 +6,29 @@ use Rattle.place.specs.Place.{answered, located}
 use borrow.Author.Rules.{rules}
 use Rattle.place.proofs.place_at.Statement.{statement}
 use Rattle.place.proofs.place_at.Tie as tie
-use Rattle.place.proofs.place_at.Reads as reads
-use Rattle.place.proofs.place_at.Lts as lts
-use Rattle.place.proofs.along.Reads as along-reads
-use Rattle.place.proofs.line_start.Reads as line-start-reads
-use Rattle.record.proofs.checks.Reads as checks-reads
 
 checks-requires : tie.Need-checks-requires
 checks-requires c κs = search rules
 
-enum_told : tie.Need-enum-told
+enum_told : tie.Need-enum_told-1
 enum_told c = search rules
 
-line-start-requires : tie.Need-line-start-requires
-line-start-requires c κs = (allowed _ _ (sym c.before.before.checks.ensures ∙ c.enum_told.given.1)).valid
+line-start-requires : tie.Need-line_start-requires
+line-start-requires c κs = (allowed _ _ (sym c.checks.ensures ∙ c.in-Passed.is)).valid
 
 along-requires : tie.Need-along-requires
 along-requires c κs = search rules
 
-enum-known-r : tie.Need-enum-known-r
+enum-known-r : tie.Need-enum_known-r
 enum-known-r c = search rules
 
-returns : tie.Need-returns
+returns : tie.Need-returns-in-Passed
 unfolding answered located
-returns c = rw (sym c.before.before.before.before.checks.ensures ∙ c.before.before.enum_told.given.1) (ap At (c.along.ensures ∙ sym (c.before.line-start.ensures.2 _)))
+returns c = rw (sym c.checks.ensures ∙ c.in-Passed.is) (ap At (c.along.ensures ∙ sym (c.line_start.ensures.2 _)))
 
-returns-2 : tie.Need-returns-2
+returns-2 : tie.Need-returns-in-Refused
 unfolding answered located
-returns-2 c = rw (sym c.before.before.before.checks.ensures ∙ c.before.r.given.1) refl
+returns-2 c = rw (sym c.checks.ensures ∙ c.in-Refused.is) refl
 
 pub place_at_spec : {M : Type 1} → statement M
 place_at_spec =

@@ -3,14 +3,12 @@ use Rattle.utf8.specs.Picks.{picks}
 use Rattle.place.specs.First.{first_units}
 use Rattle.place.proofs.units.Statement.{statement}
 use Rattle.place.proofs.units.Tie as tie
-use Rattle.place.proofs.units.Reads as reads
-use Rattle.place.proofs.units.Lts as lts
 
-returns : tie.Need-returns
+returns : tie.Need-returns-then-a-lt240
 unfolding first_units
 returns c = search picks
 
-returns-2 : tie.Need-returns-2
+returns-2 : tie.Need-returns
 unfolding first_units
 returns-2 c = search picks
 

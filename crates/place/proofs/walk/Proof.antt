@@ -7,91 +7,84 @@ use lib.ListN.{length}
 use Rattle.place.proofs.Turns.{Counted, counted_done, counted-ends-one, counted-inside, counted-one, counted-plain, counted_start, counted-wide, here}
 use Rattle.place.proofs.walk.Statement.{statement}
 use Rattle.place.proofs.walk.Tie as tie
-use Rattle.place.proofs.walk.Reads as reads
-use Rattle.place.proofs.walk.Lts as lts
-use Rattle.place.proofs.bound.Reads as bound-reads
-use Rattle.place.proofs.ends.Reads as ends-reads
-use Rattle.place.proofs.is_plain.Reads as is-plain-reads
-use Rattle.place.proofs.units.Reads as units-reads
-use Rattle.place.proofs.width.Reads as width-reads
 
-abbrev invariant-loop : tie.invariant-loop
+abbrev invariant-loop : tie.invariant-loop-i
 invariant-loop text at end line₀ column₀ i₀ line column i = Counted text at i line column
 
-abbrev decreases-loop : tie.decreases-loop
+abbrev decreases-loop : tie.decreases-loop-i
 decreases-loop text at end line₀ column₀ i₀ line column i = length text - i
 
-bound-requires : tie.Need-bound-requires invariant-loop decreases-loop
+bound-requires : tie.Need-bound-end-requires invariant-loop decreases-loop
 bound-requires c κs = search rules
 
-loop-holds : tie.Need-loop-init invariant-loop decreases-loop
-loop-holds c = counted_start _ _ c.before.before.requires
+loop-holds : tie.Need-loop-i-init invariant-loop decreases-loop
+loop-holds c = counted_start _ _ c.requires
 
-shared-slice-read-a : tie.Need-shared-slice-read-a invariant-loop decreases-loop
-shared-slice-read-a c = omega (arith, c.before.before.before.bound.ensures)
+shared-slice-read-a : tie.Need-bounds-text-i invariant-loop decreases-loop
+shared-slice-read-a c = omega (arith, c.bound-end.ensures)
 
-is-plain-requires : tie.Need-is-plain-requires invariant-loop decreases-loop
+is-plain-requires : tie.Need-is_plain-requires invariant-loop decreases-loop
 is-plain-requires c κs = search rules
 
-add-column : tie.Need-overflow-add-column invariant-loop decreases-loop
-add-column c = omega (arith, c.before.before.before.before.loop.invariant, c.before.before.before.before.before.bound.ensures)
+add-column : tie.Need-overflow_add-column invariant-loop decreases-loop
+add-column c = omega (arith, c.loop-i.invariant, c.bound-end.ensures)
 
-add-i : tie.Need-overflow-add-i invariant-loop decreases-loop
-add-i c = omega (arith, c.before.before.before.before.before.bound.ensures)
+add-i : tie.Need-overflow_add-i invariant-loop decreases-loop
+add-i c = omega (arith, c.bound-end.ensures)
 
-loop-less : tie.Need-loop-smaller invariant-loop decreases-loop
-loop-less c = omega (arith, c.before.before.before.before.before.bound.ensures)
+loop-less : tie.Need-loop-i-smaller-then-is_plain invariant-loop decreases-loop
+loop-less c = omega (arith, c.bound-end.ensures)
 
-loop-again : tie.Need-loop-preserved invariant-loop decreases-loop
-loop-again c = counted-plain _ _ _ _ _ c.before.before.before.before.loop.invariant (omega (arith, c.before.before.before.before.before.bound.ensures)) (sym c.before.is_plain.ensures ∙ c.if1.true) (omega (arith, c.before.before.before.before.before.bound.ensures))
+loop-again : tie.Need-loop-i-preserved-then-is_plain invariant-loop decreases-loop
+loop-again c = counted-plain _ _ _ _ _ c.loop-i.invariant (omega (arith, c.bound-end.ensures)) (sym c.is_plain.ensures ∙ c.if-is_plain.true) (omega (arith, c.bound-end.ensures))
 
-ends-requires : tie.Need-ends-requires invariant-loop decreases-loop
-ends-requires c κs = omega (arith, c.before.before.before.before.before.before.bound.ensures)
+ends-requires : tie.Need-ends-ended-requires invariant-loop decreases-loop
+ends-requires c κs = omega (arith, c.bound-end.ensures)
 
-add-i-2 : tie.Need-overflow-add-i-2 invariant-loop decreases-loop
-add-i-2 c = omega (arith, c.before.before.before.before.before.before.before.bound.ensures)
+add-i-2 : tie.Need-overflow_add-i-then-a-lt128 invariant-loop decreases-loop
+add-i-2 c = omega (arith, c.bound-end.ensures)
 
-add-line : tie.Need-overflow-add-line invariant-loop decreases-loop
-add-line c = omega (arith, c.before.before.before.before.before.before.before.loop.invariant, c.before.before.before.before.before.before.before.before.bound.ensures)
+add-line : tie.Need-overflow_add-line invariant-loop decreases-loop
+add-line c = omega (arith, c.loop-i.invariant, c.bound-end.ensures)
 
-loop-less-2 : tie.Need-loop-smaller-2 invariant-loop decreases-loop
-loop-less-2 c = omega (arith, c.before.before.before.before.before.before.before.before.bound.ensures)
+loop-less-2 : tie.Need-loop-i-smaller-then-ended invariant-loop decreases-loop
+loop-less-2 c = omega (arith, c.bound-end.ensures)
 
-loop-again-2 : tie.Need-loop-preserved-2 invariant-loop decreases-loop
-loop-again-2 c = counted-ends-one _ _ _ _ _ c.before.before.before.before.before.before.before.loop.invariant (omega (arith, c.before.before.before.before.before.before.before.before.bound.ensures)) (omega arith) (omega (arith, c.before.before.before.before.before.before.before.before.bound.ensures)) (sym c.if3.true ∙ c.before.ends.ensures)
+loop-again-2 : tie.Need-loop-i-preserved-then-ended invariant-loop decreases-loop
+loop-again-2 c = counted-ends-one _ _ _ _ _ c.loop-i.invariant (omega (arith, c.bound-end.ensures)) (omega arith) (omega (arith, c.bound-end.ensures)) (sym c.if-ended.true ∙ c.ends-ended.ensures)
 
-add-column-2 : tie.Need-overflow-add-column-2 invariant-loop decreases-loop
-add-column-2 c = omega (arith, c.before.before.before.before.before.before.before.loop.invariant, c.before.before.before.before.before.before.before.before.bound.ensures)
+add-column-2 : tie.Need-overflow_add-column-else-ended invariant-loop decreases-loop
+add-column-2 c = omega (arith, c.loop-i.invariant, c.bound-end.ensures)
 
-loop-less-3 : tie.Need-loop-smaller-3 invariant-loop decreases-loop
-loop-less-3 c = omega (arith, c.before.before.before.before.before.before.before.before.bound.ensures)
+loop-less-3 : tie.Need-loop-i-smaller-else-ended invariant-loop decreases-loop
+loop-less-3 c = omega (arith, c.bound-end.ensures)
 
-loop-again-3 : tie.Need-loop-preserved-3 invariant-loop decreases-loop
-loop-again-3 c = counted-one _ _ _ _ _ c.before.before.before.before.before.before.before.loop.invariant (omega (arith, c.before.before.before.before.before.before.before.before.bound.ensures)) (omega arith) (omega (arith, c.before.before.before.before.before.before.before.before.bound.ensures)) (sym c.if3.false ∙ c.before.ends.ensures)
+loop-again-3 : tie.Need-loop-i-preserved-else-ended invariant-loop decreases-loop
+loop-again-3 c = counted-one _ _ _ _ _ c.loop-i.invariant (omega (arith, c.bound-end.ensures)) (omega arith) (omega (arith, c.bound-end.ensures)) (sym c.if-ended.false ∙ c.ends-ended.ensures)
 
-width-requires : tie.Need-width-requires invariant-loop decreases-loop
+width-requires : tie.Need-width-bytes-requires invariant-loop decreases-loop
 width-requires c κs = search rules
 
-units-requires : tie.Need-units-requires invariant-loop decreases-loop
+units-requires : tie.Need-units-n-requires invariant-loop decreases-loop
 units-requires c κs = search rules
 
-add-next : tie.Need-overflow-add-next invariant-loop decreases-loop
-add-next c = omega (arith, here _ _ _ _ _ c.before.before.before.before.before.before.before.loop.invariant (omega (arith, c.before.before.before.before.before.before.before.before.bound.ensures)), c.before.width.ensures)
+add-next : tie.Need-overflow_add-next invariant-loop decreases-loop
+add-next c = omega (arith, here _ _ _ _ _ c.loop-i.invariant (omega (arith, c.bound-end.ensures)), c.width-bytes.ensures)
 
-returns : tie.Need-returns invariant-loop decreases-loop
-returns c = counted-inside _ _ _ _ _ c.before.before.before.before.before.before.before.before.loop.invariant (omega (arith, c.before.before.before.before.before.before.before.before.before.bound.ensures)) (omega (arith, c.before.before.width.ensures))
+returns : tie.Need-returns-then-at-next invariant-loop decreases-loop
+returns c = counted-inside _ _ _ _ _ c.loop-i.invariant (omega (arith, c.bound-end.ensures)) (omega (arith, c.width-bytes.ensures))
 
-add-column-3 : tie.Need-overflow-add-column-3 invariant-loop decreases-loop
-add-column-3 c = omega (arith, c.before.before.before.before.before.before.before.before.loop.invariant, here _ _ _ _ _ c.before.before.before.before.before.before.before.before.loop.invariant (omega (arith, c.before.before.before.before.before.before.before.before.before.bound.ensures)), c.before.units.ensures)
+add-column-3 : tie.Need-overflow_add-column-else-a-lt128 invariant-loop decreases-loop
+add-column-3 c = omega (arith, c.loop-i.invariant, here _ _ _ _ _ c.loop-i.invariant (omega (arith, c.bound-end.ensures)), c.units-n.ensures)
 
-loop-less-4 : tie.Need-loop-smaller-4 invariant-loop decreases-loop
-loop-less-4 c = omega (arith, here _ _ _ _ _ c.before.before.before.before.before.before.before.before.loop.invariant (omega (arith, c.before.before.before.before.before.before.before.before.before.bound.ensures)), c.before.before.width.ensures)
+loop-less-4 : tie.Need-loop-i-smaller invariant-loop decreases-loop
+loop-less-4 c = omega (arith, here _ _ _ _ _ c.loop-i.invariant (omega (arith, c.bound-end.ensures)), c.width-bytes.ensures)
 
-loop-again-4 : tie.Need-loop-preserved-4 invariant-loop decreases-loop
-loop-again-4 c = rw (c.before.before.width.ensures, c.before.units.ensures) (counted-wide _ _ _ _ _ c.before.before.before.before.before.before.before.before.loop.invariant (omega (arith, c.before.before.before.before.before.before.before.before.before.bound.ensures)) (omega arith) (omega (arith, c.before.before.width.ensures)))
+loop-again-4 : tie.Need-loop-i-preserved invariant-loop decreases-loop
+loop-again-4 c = rw (c.width-bytes.ensures, c.units-n.ensures) (counted-wide _ _ _ _ _ c.loop-i.invariant (omega (arith, c.bound-end.ensures)) (omega arith) (omega (arith, c.width-bytes.ensures)))
 
-returns-2 : tie.Need-returns-2 invariant-loop decreases-loop
-returns-2 c = let b = c.before.before.bound.ensures in counted_done _ _ _ _ _ c.before.loop.invariant _ (omega arith) b.1 b.2
+returns-2 : tie.Need-returns invariant-loop decreases-loop
+returns-2 c = let b = c.bound-end.ensures in counted_done _ _ _ _ _ c.loop-i.invariant _ (omega arith) b.1 b.2
 
 pub walk_spec : {M : Type 1} → statement M
 walk_spec =

@@ -3,22 +3,20 @@ use Rattle.utf8.specs.Picks.{picks}
 use Rattle.place.specs.First.{first_width}
 use Rattle.place.proofs.width.Statement.{statement}
 use Rattle.place.proofs.width.Tie as tie
-use Rattle.place.proofs.width.Reads as reads
-use Rattle.place.proofs.width.Lts as lts
 
-returns : tie.Need-returns
+returns : tie.Need-returns-then-a-lt128
 unfolding first_width
 returns c = search picks
 
-returns-2 : tie.Need-returns-2
+returns-2 : tie.Need-returns-then-a-lt224
 unfolding first_width
 returns-2 c = search picks
 
-returns-3 : tie.Need-returns-3
+returns-3 : tie.Need-returns-then-a-lt240
 unfolding first_width
 returns-3 c = search picks
 
-returns-4 : tie.Need-returns-4
+returns-4 : tie.Need-returns
 unfolding first_width
 returns-4 c = search picks
 

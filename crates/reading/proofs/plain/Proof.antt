@@ -3,9 +3,6 @@ use Rattle.reading.specs.Answers.{plain}
 use borrow.Author.Rules.{rules}
 use Rattle.reading.proofs.plain.Statement.{statement}
 use Rattle.reading.proofs.plain.Tie as tie
-use Rattle.reading.proofs.plain.Reads as reads
-use Rattle.reading.proofs.plain.Lts as lts
-use Rattle.reading.proofs.deliver.Reads as deliver-reads
 
 deliver-requires : tie.Need-deliver-requires
 deliver-requires c κs = search rules

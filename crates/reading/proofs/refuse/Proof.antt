@@ -3,8 +3,6 @@ use borrow.Author.Rules.{rules}
 use Rattle.reading.specs.Answers.{refuse}
 use Rattle.reading.proofs.refuse.Statement.{statement}
 use Rattle.reading.proofs.refuse.Tie as tie
-use Rattle.reading.proofs.refuse.Reads as reads
-use Rattle.reading.proofs.refuse.Lts as lts
 
 fail-requires : tie.Need-fail-requires
 fail-requires c κs = search rules

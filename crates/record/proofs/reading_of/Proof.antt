@@ -4,15 +4,15 @@ use Rattle.record.specs.Readings.{reading_of}
 use Rattle.record.proofs.reading_of.Statement.{statement}
 use Rattle.record.proofs.reading_of.Tie as tie
 
-returns : tie.Need-returns
+returns : tie.Need-returns-then-n-eq0
 unfolding reading_of
 returns c = search picks
 
-returns-2 : tie.Need-returns-2
+returns-2 : tie.Need-returns-then-n-eq1
 unfolding reading_of
 returns-2 c = search picks
 
-returns-3 : tie.Need-returns-3
+returns-3 : tie.Need-returns
 unfolding reading_of
 returns-3 c = search picks
 

@@ -3,11 +3,8 @@ use Rattle.run.specs.Pending.{advance_of}
 use borrow.Author.Rules.{rules}
 use Rattle.run.proofs.advance.Statement.{statement}
 use Rattle.run.proofs.advance.Tie as tie
-use Rattle.run.proofs.advance.Reads as reads
-use Rattle.run.proofs.advance.Lts as lts
-use Rattle.run.proofs.pend.Reads as pend-reads
 
-add-pend : tie.Need-overflow-add-pend
+add-pend : tie.Need-overflow_add-n
 add-pend c = search rules
 
 pend-requires : tie.Need-pend-requires

@@ -6,45 +6,39 @@ use Rattle.run.specs.Steps.{ready_of}
 use borrow.Author.Rules.{rules}
 use Rattle.run.proofs.begin.Statement.{statement}
 use Rattle.run.proofs.begin.Tie as tie
-use Rattle.run.proofs.begin.Reads as reads
-use Rattle.run.proofs.begin.Lts as lts
-use Rattle.record.proofs.checks.Reads as checks-reads
-use Rattle.run.proofs.halted.Reads as halted-reads
-use Rattle.run.proofs.pend.Reads as pend-reads
-use Rattle.utf8.proofs.is_boundary.Reads as is-boundary-reads
 
 checks-requires : tie.Need-checks-requires
 checks-requires c κs = search rules
 
-enum_told : tie.Need-enum-told
+enum_told : tie.Need-enum_told-1
 enum_told c = search rules
 
-is-boundary-requires : tie.Need-is-boundary-requires
+is-boundary-requires : tie.Need-is_boundary-requires
 is-boundary-requires c κs = search rules
 
 pend-requires : tie.Need-pend-requires
-pend-requires c κs = ready_of _ _ _ (sym c.before.before.before.before.checks.ensures ∙ c.before.before.enum_told.given.1) (sym c.before.is-boundary.ensures ∙ c.if1.true)
+pend-requires c κs = ready_of _ _ _ (sym c.checks.ensures ∙ c.in-Passed.is) (sym c.is_boundary.ensures ∙ c.if-is_boundary.true)
 
-returns : tie.Need-returns
+returns : tie.Need-returns-then-is_boundary
 unfolding begin_of
-returns c = rw (← c.before.before.before.before.before.checks.ensures) (rw c.before.before.before.enum_told.given.1 (search flags))
+returns c = rw (← c.checks.ensures) (rw c.in-Passed.is (search flags))
 
 halted-requires : tie.Need-halted-requires
 halted-requires c κs = search rules
 
-enum-known-r : tie.Need-enum-known-r
+enum-known-r : tie.Need-enum_known-r
 enum-known-r c = search rules
 
-halted-requires-2 : tie.Need-halted-requires-2
+halted-requires-2 : tie.Need-halted-requires-in-Refused
 halted-requires-2 c κs = search rules
 
-returns-2 : tie.Need-returns-2
+returns-2 : tie.Need-returns-else-is_boundary
 unfolding begin_of
-returns-2 c = rw (← c.before.before.before.before.before.checks.ensures) (rw c.before.before.before.enum_told.given.1 (search flags))
+returns-2 c = rw (← c.checks.ensures) (rw c.in-Passed.is (search flags))
 
-returns-3 : tie.Need-returns-3
+returns-3 : tie.Need-returns-in-Refused
 unfolding begin_of
-returns-3 c = rw (← c.before.before.before.before.checks.ensures) (rw c.before.before.r.given.1 c.halted2.ensures)
+returns-3 c = rw (← c.checks.ensures) (rw c.in-Refused.is c.halted-in-Refused.ensures)
 
 pub begin_spec : {M : Type 1} → statement M
 begin_spec =

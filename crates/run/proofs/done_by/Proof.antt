@@ -4,25 +4,23 @@ use Rattle.reading.specs.Run.{done_by}
 use borrow.Author.Rules.{rules}
 use Rattle.run.proofs.done_by.Statement.{statement}
 use Rattle.run.proofs.done_by.Tie as tie
-use Rattle.run.proofs.done_by.Reads as reads
-use Rattle.run.proofs.done_by.Lts as lts
 
-enum_told : tie.Need-enum-told
+enum_told : tie.Need-enum_told-1
 enum_told c = search rules
 
-enum-known-w : tie.Need-enum-known-w
+enum-known-w : tie.Need-enum_known-w
 enum-known-w c = search rules
 
-enum-told-2 : tie.Need-enum-told-2
+enum-told-2 : tie.Need-enum_told-in-End
 enum-told-2 c = search rules
 
-returns : tie.Need-returns
+returns : tie.Need-returns-in-Got
 returns c = search rules
 
-returns-2 : tie.Need-returns-2
-returns-2 c = ap done_by (sym c.before.w.given.1)
+returns-2 : tie.Need-returns-in-Error
+returns-2 c = ap done_by (sym c.in-Error.is)
 
-returns-3 : tie.Need-returns-3
+returns-3 : tie.Need-returns-in-End
 returns-3 c = search rules
 
 pub done_by_spec : {M : Type 1} → statement M

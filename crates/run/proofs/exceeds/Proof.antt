@@ -8,8 +8,6 @@ use borrow.Author.Tests.{lt-ltb, le-ltb}
 use Rattle.utf8.specs.Picks.{tests}
 use Rattle.run.proofs.exceeds.Statement.{statement}
 use Rattle.run.proofs.exceeds.Tie as tie
-use Rattle.run.proofs.exceeds.Reads as reads
-use Rattle.run.proofs.exceeds.Lts as lts
 
 above : (limit count advances : ℕ) → count ≤ limit → ltb (limit - count) advances ≡ ltb limit (count + advances)
 above limit count advances h = go (ltb (limit - count) advances) refl
@@ -18,11 +16,11 @@ above limit count advances h = go (ltb (limit - count) advances) refl
     go true q = sym (lt-ltb limit (count + advances) (omega tests))
     go false q = sym (le-ltb limit (count + advances) (omega tests))
 
-returns : tie.Need-returns
-returns c = sym (lt-ltb c.before.args.limit (c.before.args.count + c.before.args.advances) (omega arith))
+returns : tie.Need-returns-then-limit-count
+returns c = sym (lt-ltb c.args.limit (c.args.count + c.args.advances) (omega arith))
 
-returns-2 : tie.Need-returns-2
-returns-2 c = above c.before.args.limit c.before.args.count c.before.args.advances (omega arith)
+returns-2 : tie.Need-returns
+returns-2 c = above c.args.limit c.args.count c.args.advances (omega arith)
 
 pub exceeds_spec : {M : Type 1} → statement M
 exceeds_spec = tie.close (tie.spec returns returns-2)

@@ -4,18 +4,15 @@ use Rattle.run.specs.declared.Pending.{Pending}
 use borrow.Author.Rules.{rules}
 use Rattle.run.proofs.over_limit.Statement.{statement}
 use Rattle.run.proofs.over_limit.Tie as tie
-use Rattle.run.proofs.over_limit.Reads as reads
-use Rattle.run.proofs.over_limit.Lts as lts
-use Rattle.run.proofs.halted.Reads as halted-reads
 
-add-t10 : tie.Need-overflow-add-t10
+add-t10 : tie.Need-overflow_add-how
 add-t10 c = search rules
 
-halted-requires : tie.Need-halted-requires
+halted-requires : tie.Need-halted-p-requires
 halted-requires c κs = search rules
 
 returns : tie.Need-returns
-returns c = ap (λ (p : Pending). p.ran) c.before.halted.ensures
+returns c = ap (λ (p : Pending). p.ran) c.halted-p.ensures
 
 pub over_limit_spec : {M : Type 1} → statement M
 over_limit_spec = tie.close (tie.spec add-t10 halted-requires returns)

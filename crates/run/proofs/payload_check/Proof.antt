@@ -4,18 +4,15 @@ use Rattle.run.specs.Payload.{payload_check}
 use borrow.Author.Rules.{rules}
 use Rattle.run.proofs.payload_check.Statement.{statement}
 use Rattle.run.proofs.payload_check.Tie as tie
-use Rattle.run.proofs.payload_check.Reads as reads
-use Rattle.run.proofs.payload_check.Lts as lts
-use Rattle.run.proofs.is_payload.Reads as is-payload-reads
 
-is-payload-requires : tie.Need-is-payload-requires
+is-payload-requires : tie.Need-is_payload-requires
 is-payload-requires c κs = search rules
 
-returns : tie.Need-returns
+returns : tie.Need-returns-then-is_payload
 unfolding payload_check
 returns c = search flags
 
-returns-2 : tie.Need-returns-2
+returns-2 : tie.Need-returns
 unfolding payload_check
 returns-2 c = search flags
 

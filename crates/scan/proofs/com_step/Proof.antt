@@ -4,58 +4,56 @@ use native.Mathlib.Omega.{arith}
 use Rattle.utf8.specs.Picks.{picks}
 use Rattle.scan.proofs.com_step.Statement.{statement}
 use Rattle.scan.proofs.com_step.Tie as tie
-use Rattle.scan.proofs.com_step.Reads as reads
-use Rattle.scan.proofs.com_step.Lts as lts
 
-enum-known-st : tie.Need-enum-known-st
+enum-known-st : tie.Need-enum_known-st
 enum-known-st c = search rules
 
-returns : tie.Need-returns
-returns c = rw c.before.before.st.given.1 (search picks)
+returns : tie.Need-returns-then-c-eq-STAR
+returns c = rw c.in-Open.is (search picks)
 
-returns-2 : tie.Need-returns-2
-returns-2 c = rw c.before.before.before.st.given.1 (search picks)
+returns-2 : tie.Need-returns-then-c-eq-SLASH
+returns-2 c = rw c.in-Open.is (search picks)
 
-enum-known-st-2 : tie.Need-enum-known-st-2
+enum-known-st-2 : tie.Need-enum_known-st-in-Slash-1
 enum-known-st-2 c = search rules
 
-add-t9 : tie.Need-overflow-add-t9
-add-t9 c = omega (arith, rw c.before.before.st2.given.1 at c.before.before.before.before.requires)
+add-t9 : tie.Need-overflow_add-result
+add-t9 c = omega (arith, rw c.in-Slash.is at c.requires)
 
-returns-3 : tie.Need-returns-3
-returns-3 c = rw c.before.before.st2.given.1 (search picks)
+returns-3 : tie.Need-returns-then-c-eq-STAR-2
+returns-3 c = rw c.in-Slash.is (search picks)
 
-returns-4 : tie.Need-returns-4
-returns-4 c = rw c.before.before.before.st2.given.1 (search picks)
+returns-4 : tie.Need-returns-then-c-eq-SLASH-2
+returns-4 c = rw c.in-Slash.is (search picks)
 
-enum-known-st-3 : tie.Need-enum-known-st-3
+enum-known-st-3 : tie.Need-enum_known-st-in-Star-1
 enum-known-st-3 c = search rules
 
-returns-5 : tie.Need-returns-5
-returns-5 c = rw c.before.before.st3.given.1 (search picks)
+returns-5 : tie.Need-returns-then-c-eq-STAR-3
+returns-5 c = rw c.in-Star.is (search picks)
 
-returns-6 : tie.Need-returns-6
-returns-6 c = rw c.before.before.before.before.st3.given.1 (search picks)
+returns-6 : tie.Need-returns-then-depth-lt2
+returns-6 c = rw c.in-Star.is (search picks)
 
-sub-t12 : tie.Need-overflow-sub-t12
+sub-t12 : tie.Need-overflow_sub-result
 sub-t12 c = search rules
 
-returns-7 : tie.Need-returns-7
-returns-7 c = rw c.before.before.before.before.st3.given.1 (search picks)
+returns-7 : tie.Need-returns-then-c-eq-SLASH-3
+returns-7 c = rw c.in-Star.is (search picks)
 
-enum_told : tie.Need-enum-told
+enum_told : tie.Need-enum_told-1
 enum_told c = search rules
 
-returns-8 : tie.Need-returns-8
-returns-8 c = rw c.before.before.before.st.given.1 (search picks)
+returns-8 : tie.Need-returns-else-c-eq-SLASH
+returns-8 c = rw c.in-Open.is (search picks)
 
-returns-9 : tie.Need-returns-9
-returns-9 c = rw c.before.before.before.st2.given.1 (search picks)
+returns-9 : tie.Need-returns-else-c-eq-SLASH-2
+returns-9 c = rw c.in-Slash.is (search picks)
 
-returns-10 : tie.Need-returns-10
-returns-10 c = rw c.before.before.before.st3.given.1 (search picks)
+returns-10 : tie.Need-returns-else-c-eq-SLASH-3
+returns-10 c = rw c.in-Star.is (search picks)
 
-returns-11 : tie.Need-returns-11
+returns-11 : tie.Need-returns-in-Complete
 returns-11 c = search rules
 
 pub com_step_spec : {M : Type 1} → statement M

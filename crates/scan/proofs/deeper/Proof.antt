@@ -3,10 +3,10 @@ use Rattle.utf8.specs.Picks.{picks}
 use Rattle.scan.proofs.deeper.Statement.{statement}
 use Rattle.scan.proofs.deeper.Tie as tie
 
-returns : tie.Need-returns
+returns : tie.Need-returns-then-a-b
 returns c = search picks
 
-returns-2 : tie.Need-returns-2
+returns-2 : tie.Need-returns
 returns-2 c = search picks
 
 pub deeper_spec : {M : Type 1} → statement M

@@ -3,16 +3,14 @@ use borrow.Author.Rules.{rules}
 use Rattle.utf8.specs.Picks.{picks}
 use Rattle.scan.proofs.reg_done.Statement.{statement}
 use Rattle.scan.proofs.reg_done.Tie as tie
-use Rattle.scan.proofs.reg_done.Reads as reads
-use Rattle.scan.proofs.reg_done.Lts as lts
 
-returns : tie.Need-returns
+returns : tie.Need-returns-then-st-eq0
 returns c = search picks
 
-sub-result : tie.Need-overflow-sub-result
+sub-result : tie.Need-overflow_sub-result
 sub-result c = search rules
 
-returns-2 : tie.Need-returns-2
+returns-2 : tie.Need-returns
 returns-2 c = search picks
 
 pub reg_done_spec : {M : Type 1} → statement M

@@ -7,19 +7,15 @@ use Rattle.scan.specs.Far.{closed-within}
 use Rattle.scan.specs.Passes.{regex_past}
 use Rattle.scan.proofs.regex_skip.Statement.{statement}
 use Rattle.scan.proofs.regex_skip.Tie as tie
-use Rattle.scan.proofs.regex_skip.Reads as reads
-use Rattle.scan.proofs.regex_skip.Lts as lts
-use Rattle.scan.proofs.regex_end.Reads as regex-end-reads
-use Rattle.scan.proofs.through.Reads as through-reads
 
-regex-end-requires : tie.Need-regex-end-requires
+regex-end-requires : tie.Need-regex_end-requires
 regex-end-requires c κs = search rules
 
 through-requires : tie.Need-through-requires
-through-requires c κs = λ p m e. let h = closed-within c.before.before.args.s.now c.before.before.args.at p m (regex_past _ _ p m c.before.before.args.hashes (sym c.regex-end.ensures ∙ e)) in (omega arith, omega arith)
+through-requires c κs = λ p m e. let h = closed-within c.args.s.now c.args.at p m (regex_past _ _ p m c.args.hashes (sym c.regex_end.ensures ∙ e)) in (omega arith, omega arith)
 
 returns : tie.Need-returns
-returns c = c.through.ensures ∙ ap (through _ _) c.before.regex-end.ensures
+returns c = c.through.ensures ∙ ap (through _ _) c.regex_end.ensures
 
 pub regex_skip_spec : {M : Type 1} → statement M
 regex_skip_spec = tie.close (tie.spec regex-end-requires through-requires returns)

@@ -4,42 +4,39 @@ use mathlib.Core.Bool.{not}
 use borrow.Author.Rules.{rules}
 use Rattle.scan.proofs.stops.Statement.{statement}
 use Rattle.scan.proofs.stops.Tie as tie
-use Rattle.scan.proofs.stops.Reads as reads
-use Rattle.scan.proofs.stops.Lts as lts
-use Rattle.unicode_xid.proofs.is_identifier_continue.Reads as is-identifier-continue-reads
 
-enum_told : tie.Need-enum-told
+enum_told : tie.Need-enum_told-1
 enum_told c = search rules
 
-enum-told-2 : tie.Need-enum-told-2
+enum-told-2 : tie.Need-enum_told-in-Quote
 enum-told-2 c = search rules
 
-enum-told-3 : tie.Need-enum-told-3
+enum-told-3 : tie.Need-enum_told-in-Backtick
 enum-told-3 c = search rules
 
-enum-told-4 : tie.Need-enum-told-4
+enum-told-4 : tie.Need-enum_told-in-Hashes
 enum-told-4 c = search rules
 
-enum-told-5 : tie.Need-enum-told-5
+enum-told-5 : tie.Need-enum_told-in-Word
 enum-told-5 c = search rules
 
-is-identifier-continue-requires : tie.Need-is-identifier-continue-requires
+is-identifier-continue-requires : tie.Need-is_identifier_continue-requires
 is-identifier-continue-requires c κs = search rules
 
-returns : tie.Need-returns
-returns c = rw c.enum_told.given.1
+returns : tie.Need-returns-in-Newline
+returns c = rw c.in-Newline.is
 
-returns-2 : tie.Need-returns-2
-returns-2 c = rw c.enum-told2.given.1
+returns-2 : tie.Need-returns-in-Quote
+returns-2 c = rw c.in-Quote.is
 
-returns-3 : tie.Need-returns-3
-returns-3 c = rw c.enum-told3.given.1
+returns-3 : tie.Need-returns-in-Backtick
+returns-3 c = rw c.in-Backtick.is
 
-returns-4 : tie.Need-returns-4
-returns-4 c = rw c.enum-told4.given.1
+returns-4 : tie.Need-returns-in-Hashes
+returns-4 c = rw c.in-Hashes.is
 
-returns-5 : tie.Need-returns-5
-returns-5 c = rw c.before.enum-told5.given.1 (ap not c.is-identifier-continue.ensures)
+returns-5 : tie.Need-returns-in-Word
+returns-5 c = rw c.in-Word.is (ap not c.is_identifier_continue.ensures)
 
 pub stops_spec : {M : Type 1} → statement M
 stops_spec =

@@ -9,20 +9,16 @@ use Rattle.scan.specs.Far.{closed-within}
 use Rattle.scan.specs.Passes.{string_past}
 use Rattle.scan.proofs.string_skip.Statement.{statement}
 use Rattle.scan.proofs.string_skip.Tie as tie
-use Rattle.scan.proofs.string_skip.Reads as reads
-use Rattle.scan.proofs.string_skip.Lts as lts
-use Rattle.scan.proofs.string_end.Reads as string-end-reads
-use Rattle.scan.proofs.through.Reads as through-reads
 
-string-end-requires : tie.Need-string-end-requires
+string-end-requires : tie.Need-string_end-requires
 string-end-requires c κs = search rules
 
 through-requires : tie.Need-through-requires
 unfolding width_of
-through-requires c κs = λ p m e. let h = closed-within c.before.before.args.s.now c.before.before.args.at p m (string_past _ _ p m 'dquote refl (sym c.string_end_lem.ensures ∙ e)) in (omega arith, omega arith)
+through-requires c κs = λ p m e. let h = closed-within c.args.s.now c.args.at p m (string_past _ _ p m 'dquote refl (sym c.string_end.ensures ∙ e)) in (omega arith, omega arith)
 
 returns : tie.Need-returns
-returns c = c.through.ensures ∙ ap (through _ _) c.before.string_end_lem.ensures
+returns c = c.through.ensures ∙ ap (through _ _) c.string_end.ensures
 
 pub string_skip_spec : {M : Type 1} → statement M
 string_skip_spec = tie.close (tie.spec string-end-requires through-requires returns)

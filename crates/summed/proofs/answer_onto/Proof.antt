@@ -4,15 +4,15 @@ use Rattle.summed.specs.Summed.{answer_onto}
 use Rattle.summed.proofs.answer_onto.Statement.{statement}
 use Rattle.summed.proofs.answer_onto.Tie as tie
 
-returns : tie.Need-returns
+returns : tie.Need-returns-then-code-eq0
 unfolding answer_onto
 returns c =
-    rw (← c.before.before.before.before.before.get.ensures, eq-eqb _ _ c.before.before.before.before.if1.true)
-    c.before.before.ended-onto.ensures
+    rw (← c.get-code.ensures, eq-eqb _ _ c.if-code-eq0.true)
+    c.ended_onto.ensures
 
-returns-2 : tie.Need-returns-2
+returns-2 : tie.Need-returns-else-code-eq0
 unfolding answer_onto
-returns-2 c = rw (← c.before.before.before.before.before.get.ensures, ne_eqb _ _ c.before.before.before.before.if1.false) c.before.before.tallied-onto.ensures
+returns-2 c = rw (← c.get-code.ensures, ne_eqb _ _ c.if-code-eq0.false) c.tallied_onto.ensures
 
 pub answer_onto_spec : {M : Type 1} → statement M
 answer_onto_spec =

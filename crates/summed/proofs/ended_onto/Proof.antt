@@ -9,16 +9,16 @@ returns : tie.Need-returns
 unfolding ended_onto
 returns c =
     rw (
-      ← c.before.before.before.before.before.before.before.before.before.before.before.before.before.before.before.get.ensures,
-      ← c.before.before.before.before.before.before.before.before.before.before.before.before.before.before.rest.ensures,
-      ← c.before.before.before.before.before.before.before.before.before.before.before.before.tokens-onto.ensures,
-      ← (between_all c.before.before.before.before.before.before.before.before.before.before.before.before.before.before.before.before.before.before.before.args.text.now),
+      ← c.get.ensures,
+      ← c.rest.ensures,
+      ← c.tokens_onto.ensures,
+      ← (between_all c.args.text.now),
     )
     (rw (
-      ← c.before.before.before.before.before.before.before.before.between.ensures.0,
-      ← c.before.before.before.before.before.before.before.more.ensures,
-      ← c.before.before.before.get2.ensures,
-    ) c.before.before.more2.ensures)
+      ← c.between.ensures.0,
+      ← c.more.ensures,
+      ← c.get-2.ensures,
+    ) c.more-2.ensures)
 
 pub ended_onto_spec : {M : Type 1} → statement M
 ended_onto_spec =

@@ -4,11 +4,11 @@ use Rattle.summed.specs.Summed.{failed}
 use Rattle.summed.proofs.failed.Statement.{statement}
 use Rattle.summed.proofs.failed.Tie as tie
 
-returns : tie.Need-returns
+returns : tie.Need-returns-then-kind-eq-HASH
 unfolding failed
 returns c = search picks
 
-returns-2 : tie.Need-returns-2
+returns-2 : tie.Need-returns
 unfolding failed
 returns-2 c = search picks
 

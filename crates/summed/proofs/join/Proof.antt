@@ -7,8 +7,8 @@ use Rattle.summed.proofs.join.Tie as tie
 returns : tie.Need-returns
 unfolding joined
 returns c =
-    rw (← c.before.before.before.before.before.before.before.get.ensures, ← c.before.before.before.before.before.before.more.ensures)
-    c.before.before.clear.ensures
+    rw (← c.get.ensures, ← c.more.ensures)
+    c.clear.ensures
 
 pub join_spec : {M : Type 1} → statement M
 join_spec = tie.close (tie.spec (λ c κs. search rules) (λ c κs. search rules) (λ c κs. search rules) (λ c. search rules) returns)

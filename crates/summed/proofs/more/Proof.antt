@@ -5,11 +5,11 @@ use Rattle.summed.specs.Laws.{more_out}
 use Rattle.summed.proofs.more.Statement.{statement}
 use Rattle.summed.proofs.more.Tie as tie
 
-returns : tie.Need-returns
+returns : tie.Need-returns-then-i-row
 unfolding more
-returns c = rw c.wrapping-add-u64.ensures
+returns c = rw c.wrapping_add_u64.ensures
 
-returns-2 : tie.Need-returns-2
+returns-2 : tie.Need-returns-else-i-row
 returns-2 c = more_out _ _ _ (omega arith)
 
 pub more_spec : {M : Type 1} → statement M

@@ -4,13 +4,13 @@ use Rattle.std.proofs.Common.{rules}
 use Rattle.summed.proofs.recorded_onto.Statement.{statement}
 use Rattle.summed.proofs.recorded_onto.Tie as tie
 
-returns : tie.Need-returns
+returns : tie.Need-returns-then-code
 unfolding is_refused recorded_onto
-returns c = rw (← c.before.get.ensures, c.if1.true)
+returns c = rw (← c.get-code.ensures, c.if-code.true)
 
-returns-2 : tie.Need-returns-2
+returns-2 : tie.Need-returns
 unfolding is_refused recorded_onto
-returns-2 c = rw (← c.before.before.before.before.before.before.before.before.before.get.ensures, c.before.before.before.before.before.before.before.before.if1.false, ← c.before.before.before.before.before.before.answer-onto.ensures) c.before.before.more.ensures
+returns-2 c = rw (← c.get-code.ensures, c.if-code.false, ← c.answer_onto.ensures) c.more.ensures
 
 pub recorded_onto_spec : {M : Type 1} → statement M
 recorded_onto_spec =

@@ -4,7 +4,7 @@ use Rattle.summed.specs.Laws.{more_out}
 use Rattle.summed.proofs.tallied_onto.Statement.{statement}
 use Rattle.summed.proofs.tallied_onto.Tie as tie
 
-returns-2 : tie.Need-returns-2
+returns-2 : tie.Need-returns-else-c-row
 returns-2 c = more_out _ _ _ (omega arith)
 
 pub tallied_onto_spec : {M : Type 1} → statement M

@@ -8,16 +8,16 @@ returns : tie.Need-returns
 unfolding token_onto
 returns c =
     rw (
-      ← c.before.before.before.before.before.before.before.before.before.before.before.before.before.before.before.before.before.before.before.before.before.before.between.ensures.0,
-      ← c.before.before.before.before.before.before.before.before.before.before.before.before.before.before.before.before.before.before.before.before.before.dropped.ensures.0,
-      ← c.before.before.before.before.before.before.before.failed.ensures,
+      ← c.between-width.ensures.0,
+      ← c.dropped-gone.ensures.0,
+      ← c.failed.ensures,
     )
     (rw (
-      ← c.before.before.before.before.before.before.before.before.before.before.before.before.before.before.before.before.before.before.before.more.ensures,
-      ← c.before.before.before.before.before.before.before.before.before.before.before.before.before.before.before.more2.ensures,
-      ← c.before.before.before.before.before.before.before.before.before.before.before.more3.ensures,
-      ← c.before.before.before.before.before.before.more4.ensures,
-    ) c.before.before.fewer.ensures)
+      ← c.more.ensures,
+      ← c.more-2.ensures,
+      ← c.more-3.ensures,
+      ← c.more-4.ensures,
+    ) c.fewer.ensures)
 
 pub token_onto_spec : {M : Type 1} → statement M
 token_onto_spec =

@@ -5,26 +5,26 @@ use Rattle.summed.specs.Laws.{tokens-end, tokens-on}
 use Rattle.summed.proofs.tokens_onto.Statement.{statement}
 use Rattle.summed.proofs.tokens_onto.Tie as tie
 
-abbrev invariant-loop : tie.invariant-loop
+abbrev invariant-loop : tie.invariant-loop-at
 invariant-loop text shift tokens row₀ at₀ row at = (length row ≡ length row₀) × (at ≤ length tokens) × (tokens_onto text shift (drop at tokens) row ≡ tokens_onto text shift tokens row₀)
 
-abbrev decreases-loop : tie.decreases-loop
+abbrev decreases-loop : tie.decreases-loop-at
 decreases-loop text shift tokens row₀ at₀ row at = length tokens - at
 
-loop-holds : tie.Need-loop-init invariant-loop decreases-loop
+loop-holds : tie.Need-loop-at-init invariant-loop decreases-loop
 loop-holds c = (refl, omega arith, refl)
 
-loop-again : tie.Need-loop-preserved invariant-loop decreases-loop
+loop-again : tie.Need-loop-at-preserved invariant-loop decreases-loop
 loop-again c =
-    let a = c.before.before.before.before.before.before.before.before.before.before.before.before.before.before.args in
-    let l = c.before.before.before.before.before.before.before.before.before.before.loop in
+    let a = c.args in
+    let l = c.loop-at in
     let e = tokens-on a.text.now a.shift l.at a.tokens.now l.row (omega arith) in
-    (search rules, omega arith, rw (c.before.before.token-onto.ensures, c.before.before.before.before.before.before.less.ensures, c.before.before.before.before.less2.ensures) (sym e ∙ l.invariant.2))
+    (search rules, omega arith, rw (c.token_onto.ensures, c.less.ensures, c.less-in-loop-at.ensures) (sym e ∙ l.invariant.2))
 
 returns : tie.Need-returns invariant-loop decreases-loop
 returns c =
-    let a = c.before.before.before.before.before.args in
-    let l = c.before.loop in
+    let a = c.args in
+    let l = c.loop-at in
     sym (tokens-end a.text.now a.shift l.at a.tokens.now l.row (omega arith)) ∙ l.invariant.2
 
 pub tokens_onto_spec : {M : Type 1} → statement M
@@ -34,20 +34,20 @@ tokens_onto_spec =
     invariant-loop
     decreases-loop
     loop-holds
-    (λ c. omega arith)
-    (λ c. omega arith)
-    (λ c. omega arith)
-    (λ c. omega arith)
-    (λ c. omega arith)
-    (λ c. omega arith)
+    (λ c. search rules)
+    (λ c. search rules)
+    (λ c. search rules)
+    (λ c. search rules)
+    (λ c. search rules)
+    (λ c. search rules)
     (λ c κs. search rules)
-    (λ c. omega arith)
-    (λ c. omega arith)
-    (λ c. omega arith)
+    (λ c. search rules)
+    (λ c. search rules)
+    (λ c. search rules)
     (λ c κs. search rules)
     (λ c κs. search rules)
-    (λ c. omega arith)
-    (λ c. omega arith)
+    (λ c. search rules)
+    (λ c. search rules)
     loop-again
     (λ c. search rules)
     returns)

@@ -8,16 +8,16 @@ use mathlib.Core.Path.{◌∙◌}
 use Rattle.table.proofs.kind_line.Statement.{statement}
 use Rattle.table.proofs.kind_line.Tie as tie
 
-returns : tie.Need-returns
+returns : tie.Need-returns-then-n-eq0
 unfolding kind_line
-returns c = rw (eq-eqb _ _ c.if1.true) (put-none _ _)
+returns c = rw (eq-eqb _ _ c.if-n-eq0.true) (put-none _ _)
 
-same_length : tie.Need-same-length
-same_length c = c.before.before.share-onto.auto.0 ∙ c.before.before.before.before.before.before.before.line-of-kind.auto.0
+same_length : tie.Need-shape_of-out
+same_length c = c.share_onto.auto.out ∙ c.line_of_kind-begun.auto.out
 
-returns-2 : tie.Need-returns-2
+returns-2 : tie.Need-returns
 unfolding bytes kind_line share_line
-returns-2 c = rw (ne_eqb _ _ c.before.before.before.before.before.before.before.before.before.if1.false) (put-more _ _ _ _ _ _ _ _ c.before.before.before.before.before.before.before.line-of-kind.ensures (rw c.before.before.before.tenths.ensures at c.before.before.share-onto.ensures))
+returns-2 c = rw (ne_eqb _ _ c.if-n-eq0.false) (put-more _ _ _ _ _ _ _ _ c.line_of_kind-begun.ensures (rw c.tenths.ensures at c.share_onto.ensures))
 
 pub kind_line_spec : {M : Type 1} → statement M
 kind_line_spec = tie.close (tie.spec returns (λ c κs. tt) (λ c κs. search rules) (λ c κs. tt) same_length returns-2)

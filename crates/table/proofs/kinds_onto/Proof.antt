@@ -9,20 +9,31 @@ use native.Mathlib.Omega.{arith}
 use Rattle.table.proofs.kinds_onto.Statement.{statement}
 use Rattle.table.proofs.kinds_onto.Tie as tie
 
-abbrev invariant-loop : tie.invariant-loop
+abbrev invariant-loop : tie.invariant-loop-i
 invariant-loop out₀ counts all came₀ i₀ out came i = Going (kind_line all) 0 counts out₀ came₀ out came i × (length out ≡ length out₀)
 
-abbrev decreases-loop : tie.decreases-loop
+abbrev decreases-loop : tie.decreases-loop-i
 decreases-loop out₀ counts all came₀ i₀ out came i = length counts - i
 
-kind-line-requires : tie.Need-kind-line-requires invariant-loop decreases-loop
-kind-line-requires c κs = (within-at work_limit c.before.before.before.before.before.before.args.counts.now c.before.before.before.loop.i c.before.before.before.before.before.before.requires.0 c.before.before.loop-test.true, c.before.before.before.before.before.before.requires.1)
+kind-line-requires : tie.Need-kind_line-came-requires invariant-loop decreases-loop
+kind-line-requires c κs = (within-at work_limit c.args.counts.now c.loop-i.i c.requires.0 c.loop-i-test.true, c.requires.1)
 
-loop-again : tie.Need-loop-preserved invariant-loop decreases-loop
-loop-again c = (going_on _ _ _ _ _ _ _ _ _ _ _ c.before.before.before.before.before.before.loop.invariant.0 c.before.before.before.before.before.loop-test.true c.before.before.kind-line.ensures (omega arith), c.before.before.kind-line.auto.0 ∙ c.before.before.before.before.before.before.loop.invariant.1)
+loop-again : tie.Need-loop-i-preserved invariant-loop decreases-loop
+loop-again c = (going_on _ _ _ _ _ _ _ _ _ _ _ c.loop-i.invariant.0 c.loop-i-test.true c.kind_line-came.ensures (omega arith), c.kind_line-came.auto.out ∙ c.loop-i.invariant.1)
 
 returns : tie.Need-returns invariant-loop decreases-loop
-returns c = going_all _ _ _ _ _ _ _ _ c.before.loop.invariant.0 c.loop-test.false
+returns c = going_all _ _ _ _ _ _ _ _ c.loop-i.invariant.0 c.loop-i-test.false
 
 pub kinds_onto_spec : {M : Type 1} → statement M
-kinds_onto_spec = tie.close (tie.spec invariant-loop decreases-loop (λ c. (going-first _ _ _ _ _, refl)) (λ c. omega arith) (λ c. omega arith) kind-line-requires (λ c. omega arith) (λ c. omega arith) loop-again (λ c. c.before.loop.invariant.1) returns)
+kinds_onto_spec = tie.close (tie.spec
+    invariant-loop
+    decreases-loop
+    (λ c. (going-first _ _ _ _ _, refl))
+    (λ c. omega arith)
+    (λ c. omega arith)
+    kind-line-requires
+    (λ c. omega arith)
+    (λ c. omega arith)
+    loop-again
+    (λ c. c.loop-i.invariant.1)
+    returns)

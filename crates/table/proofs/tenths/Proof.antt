@@ -6,13 +6,13 @@ use mathlib.Core.Path.{refl}
 use Rattle.table.proofs.tenths.Statement.{statement}
 use Rattle.table.proofs.tenths.Tie as tie
 
-returns : tie.Need-returns
+returns : tie.Need-returns-then-all-eq0
 unfolding tenths
-returns c = pick_eq _ _ _ _ _ c.if1.true refl
+returns c = pick_eq _ _ _ _ _ c.if-all-eq0.true refl
 
-returns-2 : tie.Need-returns-2
+returns-2 : tie.Need-returns
 unfolding tenths
-returns-2 c = pick_ne _ _ _ _ _ c.if1.false refl
+returns-2 c = pick_ne _ _ _ _ _ c.if-all-eq0.false refl
 
 pub tenths_spec : {M : Type 1} → statement M
 tenths_spec = tie.close (tie.spec returns (λ c. search rules) (λ c. search rules) (λ c. search rules) (λ c. search rules) returns-2)

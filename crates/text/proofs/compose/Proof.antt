@@ -10,50 +10,50 @@ use Rattle.text.specs.Pieces.{Composed, composed_all, composed_first, composed_o
 use Rattle.text.proofs.compose.Statement.{statement}
 use Rattle.text.proofs.compose.Tie as tie
 
-abbrev invariant-loop : tie.invariant-loop
+abbrev invariant-loop : tie.invariant-loop-i
 invariant-loop out at pieces buffer₀ n₀ i₀ buffer n i = Composed buffer₀ pieces buffer n i
 
-abbrev decreases-loop : tie.decreases-loop
+abbrev decreases-loop : tie.decreases-loop-i
 decreases-loop out at pieces buffer₀ n₀ i₀ buffer n i = 8 - i
 
-loop-holds : tie.Need-loop-init invariant-loop decreases-loop
+loop-holds : tie.Need-loop-i-init invariant-loop decreases-loop
 loop-holds c = composed_first _ _ refl
 
-slice-aggregate-piece-in : tie.Need-slice-aggregate-piece-in invariant-loop decreases-loop
-slice-aggregate-piece-in c = let w = c.before.before.loop.invariant in sym w.wide
+slice-aggregate-piece-in : tie.Need-slice_bounds-piece_in-end invariant-loop decreases-loop
+slice-aggregate-piece-in c = let w = c.loop-i.invariant in sym w.wide
 
-mul-piece-in : tie.Need-overflow-mul-piece-in invariant-loop decreases-loop
+mul-piece-in : tie.Need-offset_bounds-pieces-i invariant-loop decreases-loop
 mul-piece-in c = omega arith
 
-array-copy-out-piece-in : tie.Need-array-copy-out-piece-in invariant-loop decreases-loop
+array-copy-out-piece-in : tie.Need-bounds-pieces-i invariant-loop decreases-loop
 array-copy-out-piece-in c = omega arith
 
-piece-in-requires : tie.Need-piece-in-requires invariant-loop decreases-loop
-piece-in-requires c κs = let w = c.before.before.before.loop.invariant in omega (arith, w.wide, w.few, c.before.before.loop-test.true)
+piece-in-requires : tie.Need-piece_in-n-requires invariant-loop decreases-loop
+piece-in-requires c κs = let w = c.loop-i.invariant in omega (arith, w.wide, w.few, c.loop-i-test.true)
 
-add-i : tie.Need-overflow-add-i invariant-loop decreases-loop
+add-i : tie.Need-overflow_add-i invariant-loop decreases-loop
 add-i c = omega arith
 
-loop-less : tie.Need-loop-smaller invariant-loop decreases-loop
+loop-less : tie.Need-loop-i-smaller invariant-loop decreases-loop
 loop-less c = omega arith
 
-loop-again : tie.Need-loop-preserved invariant-loop decreases-loop
-loop-again c = let w = c.before.before.before.before.before.loop.invariant in composed_on _ _ _ _ _ _ _ (Phrase 0) w c.before.before.before.before.loop-test.true c.before.before.before.before.before.before.before.requires c.before.piece-in.ensures.0 c.before.piece-in.ensures.1
+loop-again : tie.Need-loop-i-preserved invariant-loop decreases-loop
+loop-again c = let w = c.loop-i.invariant in composed_on _ _ _ _ _ _ _ (Phrase 0) w c.loop-i-test.true c.requires c.piece_in-n.ensures.0 c.piece_in-n.ensures.1
 
-array-share-prefix-buffer : tie.Need-array-share-prefix-buffer invariant-loop decreases-loop
-array-share-prefix-buffer c = let w = c.before.before.loop.invariant in omega (arith, w.wide, w.few, w.begun)
+array-share-prefix-buffer : tie.Need-slice_bounds-buffer-end invariant-loop decreases-loop
+array-share-prefix-buffer c = let w = c.loop-i.invariant in omega (arith, w.wide, w.few, w.begun)
 
-slice-aggregate-put : tie.Need-slice-aggregate-put invariant-loop decreases-loop
-slice-aggregate-put c = let w = c.before.before.before.loop.invariant in sym (length-take-le _ _ (omega (arith, w.wide, w.few, w.begun)))
+slice-aggregate-put : tie.Need-slice_bounds-put-end invariant-loop decreases-loop
+slice-aggregate-put c = let w = c.loop-i.invariant in sym (length-take-le _ _ (omega (arith, w.wide, w.few, w.begun)))
 
 put-requires : tie.Need-put-requires invariant-loop decreases-loop
 put-requires c κs = search rules
 
-same_length : tie.Need-same-length invariant-loop decreases-loop
+same_length : tie.Need-shape_of-out invariant-loop decreases-loop
 same_length c = search rules
 
 returns : tie.Need-returns invariant-loop decreases-loop
-returns c = let w = c.before.before.before.before.before.before.loop.invariant in rw (← (composed_all _ _ _ _ _ w refl c.before.before.before.before.before.before.before.before.requires c.before.before.before.before.before.loop-test.false)) c.before.before.put.ensures
+returns c = let w = c.loop-i.invariant in rw (← (composed_all _ _ _ _ _ w refl c.requires c.loop-i-test.false)) c.put.ensures
 
 pub compose_spec : {M : Type 1} → statement M
 compose_spec =

@@ -1,5 +1,4 @@
 -- `text::end_line` meets its contract.
-use mathlib.Core.Path.{refl}
 use borrow.Author.Rules.{rules}
 use Rattle.text.specs.Bytes.{bytes, join}
 use Rattle.text.specs.Lines.{end_line}
@@ -9,7 +8,7 @@ use Rattle.text.proofs.end_line.Tie as tie
 
 returns : tie.Need-returns
 unfolding all_bytes bytes join phrase phrases end_line
-returns c = c.before.before.compose.ensures
+returns c = c.compose.ensures
 
-pub end-line_spec : {M : Type 1} → statement M
-end-line_spec = tie.close (tie.spec (λ c κs. refl) (λ c. search rules) returns)
+pub end_line_spec : {M : Type 1} → statement M
+end_line_spec = tie.close (tie.spec (λ c κs. search rules) (λ c. search rules) returns)

@@ -1,5 +1,4 @@
 -- `text::kind_name` meets its contract.
-use mathlib.Core.Path.{refl}
 use mathlib.Core.List.{append-nil}
 use borrow.Author.Rules.{rules}
 use Rattle.text.specs.Pieces.{all_bytes}
@@ -9,7 +8,7 @@ use Rattle.text.proofs.kind_name.Tie as tie
 
 returns : tie.Need-returns
 unfolding all_bytes
-returns c = rw (append-nil (kind_name c.before.before.before.before.before.args.kind)) at c.before.before.compose.ensures
+returns c = rw (append-nil (kind_name c.args.kind)) at c.compose.ensures
 
 pub kind_name_spec : {M : Type 1} → statement M
-kind_name_spec = tie.close (tie.spec (λ c κs. refl) (λ c. search rules) returns)
+kind_name_spec = tie.close (tie.spec (λ c κs. search rules) (λ c. search rules) returns)

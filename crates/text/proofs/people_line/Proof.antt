@@ -1,5 +1,4 @@
 -- `text::people_line` meets its contract.
-use mathlib.Core.Path.{refl}
 use borrow.Author.Rules.{rules}
 use Rattle.text.specs.Bytes.{bytes, join}
 use Rattle.text.specs.Lines.{people_line}
@@ -9,7 +8,7 @@ use Rattle.text.proofs.people_line.Tie as tie
 
 returns : tie.Need-returns
 unfolding all_bytes bytes join phrase phrases people_line
-returns c = c.before.before.compose.ensures
+returns c = c.compose.ensures
 
 pub people_line_spec : {M : Type 1} → statement M
-people_line_spec = tie.close (tie.spec (λ c κs. refl) (λ c. search rules) returns)
+people_line_spec = tie.close (tie.spec (λ c κs. search rules) (λ c. search rules) returns)

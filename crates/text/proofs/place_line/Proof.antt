@@ -1,5 +1,4 @@
 -- `text::place_line` meets its contract.
-use mathlib.Core.Path.{refl}
 use borrow.Author.Rules.{rules}
 use Rattle.text.specs.Bytes.{bytes, join}
 use Rattle.text.specs.Lines.{place_line}
@@ -9,7 +8,7 @@ use Rattle.text.proofs.place_line.Tie as tie
 
 returns : tie.Need-returns
 unfolding all_bytes bytes join phrase phrases place_line
-returns c = c.before.before.compose.ensures
+returns c = c.compose.ensures
 
 pub place_line_spec : {M : Type 1} → statement M
-place_line_spec = tie.close (tie.spec (λ c κs. refl) (λ c. search rules) returns)
+place_line_spec = tie.close (tie.spec (λ c κs. search rules) (λ c. search rules) returns)

@@ -1,5 +1,4 @@
 -- `text::token_line` meets its contract.
-use mathlib.Core.Path.{refl}
 use borrow.Author.Rules.{rules}
 use Rattle.text.specs.Bytes.{bytes, join}
 use Rattle.text.specs.Lines.{token_line}
@@ -9,7 +8,7 @@ use Rattle.text.proofs.token_line.Tie as tie
 
 returns : tie.Need-returns
 unfolding all_bytes bytes join phrase phrases token_line
-returns c = c.before.before.compose.ensures
+returns c = c.compose.ensures
 
-pub token-line_spec : {M : Type 1} → statement M
-token-line_spec = tie.close (tie.spec (λ c κs. refl) (λ c. search rules) returns)
+pub token_line_spec : {M : Type 1} → statement M
+token_line_spec = tie.close (tie.spec (λ c κs. search rules) (λ c. search rules) returns)

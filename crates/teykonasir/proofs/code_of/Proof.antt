@@ -9,20 +9,20 @@ use Rattle.teykonasir.proofs.code_of.Tie as tie
 use Rattle.teykonasir.proofs.code_of.Reads as reads
 use Rattle.teykonasir.proofs.code_of.Lts as lts
 
-returns : tie.Need-returns
+returns : tie.Need-returns-then-n-lt1
 unfolding code_known
-returns c = rw (lt-ltb _ _ c.if1.true)
+returns c = rw (lt-ltb _ _ c.if-n-lt1.true)
 
-returns-2 : tie.Need-returns-2
+returns-2 : tie.Need-returns-then-n-ge30
 unfolding code_known
-returns-2 c = rw (le-ltb _ _ c.before.if1.false, le-ltb _ _ c.if2.true)
+returns-2 c = rw (le-ltb _ _ c.if-n-lt1.false, le-ltb _ _ c.if-n-ge30.true)
 
-array-copy-out-code : tie.Need-array-copy-out-code
+array-copy-out-code : tie.Need-bounds-i-i
 array-copy-out-code c = search rules
 
-returns-3 : tie.Need-returns-3
+returns-3 : tie.Need-returns
 unfolding codes
-returns-3 c = code_is c.before.before.before.args.n _ c.before.before.if1.false c.before.if2.false
+returns-3 c = code_is c.args.n _ c.if-n-lt1.false c.if-n-ge30.false
 
 pub code_of_spec : {M : Type 1} → statement M
 code_of_spec = tie.close (tie.spec returns returns-2 array-copy-out-code returns-3)

@@ -11,50 +11,50 @@ use Rattle.record.proofs.code_number.Reads as code-number-reads
 use Rattle.teykonasir.proofs.put_four.Reads as put-four-reads
 use Rattle.teykonasir.proofs.put_three.Reads as put-three-reads
 
-enum_told : tie.Need-enum-told
+enum_told : tie.Need-enum_told-1
 enum_told c = search rules
 
-put-three-requires : tie.Need-put-three-requires
+put-three-requires : tie.Need-put_three-requires
 put-three-requires c κs = search rules
 
-enum-told-2 : tie.Need-enum-told-2
+enum-told-2 : tie.Need-enum_told-in-Ended
 enum-told-2 c = search rules
 
-put-three-requires-2 : tie.Need-put-three-requires-2
+put-three-requires-2 : tie.Need-put_three-requires-in-Ended
 put-three-requires-2 c κs = search rules
 
-enum-known-done : tie.Need-enum-known-done
+enum-known-done : tie.Need-enum_known-done
 enum-known-done c = search rules
 
-code-number-requires : tie.Need-code-number-requires
+code-number-requires : tie.Need-code_number-requires
 code-number-requires c κs = search rules
 
-cast-put-four : tie.Need-overflow-cast-put-four
+cast-put-four : tie.Need-overflow_cast-code_number
 cast-put-four c = search rules
 
-put-four-requires : tie.Need-put-four-requires
+put-four-requires : tie.Need-put_four-requires
 put-four-requires c κs = search rules
 
-same_length : tie.Need-same-length
+same_length : tie.Need-shape_of-state-in-Running
 same_length c = search rules
 
-returns : tie.Need-returns
-returns c = state-plain c.before.before.before.before.before.before.before.args.t c.before.before.before.before.before.before.before.args.state.now _ Running c.before.before.before.before.enum_told.given.1 c.before.before.put_three.ensures
+returns : tie.Need-returns-in-Running
+returns c = state-plain c.args.t c.args.state.now _ Running c.in-Running.is c.put_three.ensures
 
-same-length-2 : tie.Need-same-length-2
+same-length-2 : tie.Need-shape_of-state-in-Ended
 same-length-2 c = search rules
 
-returns-2 : tie.Need-returns-2
-returns-2 c = state-plain c.before.before.before.before.before.before.before.args.t c.before.before.before.before.before.before.before.args.state.now _ Ended c.before.before.before.before.enum-told2.given.1 c.before.before.put-three2.ensures
+returns-2 : tie.Need-returns-in-Ended
+returns-2 c = state-plain c.args.t c.args.state.now _ Ended c.in-Ended.is c.put_three-in-Ended.ensures
 
-same-length-3 : tie.Need-same-length-3
+same-length-3 : tie.Need-shape_of-state-in-Refused
 same-length-3 c = search rules
 
-returns-3 : tie.Need-returns-3
-returns-3 c = state-plain c.before.before.before.before.before.before.before.before.before.args.t c.before.before.before.before.before.before.before.before.before.args.state.now _ (Refused c.before.before.before.before.before.before.done.given.0.0) c.before.before.before.before.before.before.done.given.1 (c.before.before.put_four.ensures ∙ four c.before.before.before.before.before.before.before.before.before.args.state.now _ _ _ _ _ _ _ _ refl refl c.before.before.before.code-number.ensures refl)
+returns-3 : tie.Need-returns-in-Refused
+returns-3 c = state-plain c.args.t c.args.state.now _ (Refused c.in-Refused.r) c.in-Refused.is (c.put_four.ensures ∙ four c.args.state.now _ _ _ _ _ _ _ _ refl refl c.code_number.ensures refl)
 
-pub put-state_spec : {M : Type 1} → statement M
-put-state_spec =
+pub put_state_spec : {M : Type 1} → statement M
+put_state_spec =
     tie.close
     (tie.spec
     enum_told

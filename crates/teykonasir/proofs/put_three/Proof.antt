@@ -9,16 +9,16 @@ use Rattle.teykonasir.proofs.put_three.Tie as tie
 use Rattle.teykonasir.proofs.put_three.Reads as reads
 use Rattle.teykonasir.proofs.put_three.Lts as lts
 
-slice-write-answer : tie.Need-slice-write-answer
+slice-write-answer : tie.Need-bounds-answer-0
 slice-write-answer c = search rules
 
-slice-write-answer-2 : tie.Need-slice-write-answer-2
+slice-write-answer-2 : tie.Need-bounds-answer-1
 slice-write-answer-2 c = simp length-set (omega arith)
 
-slice-write-answer-3 : tie.Need-slice-write-answer-3
+slice-write-answer-3 : tie.Need-bounds-answer-2
 slice-write-answer-3 c = search rules
 
-same_length : tie.Need-same-length
+same_length : tie.Need-shape_of-answer
 same_length c = search rules
 
 returns : tie.Need-returns

@@ -8,17 +8,17 @@ use Rattle.teykonasir.proofs.put_two.Tie as tie
 use Rattle.teykonasir.proofs.put_two.Reads as reads
 use Rattle.teykonasir.proofs.put_two.Lts as lts
 
-slice-write-answer : tie.Need-slice-write-answer
+slice-write-answer : tie.Need-bounds-answer-0
 slice-write-answer c = search rules
 
-slice-write-answer-2 : tie.Need-slice-write-answer-2
+slice-write-answer-2 : tie.Need-bounds-answer-1
 slice-write-answer-2 c = search rules
 
-same_length : tie.Need-same-length
+same_length : tie.Need-shape_of-answer
 same_length c = search rules
 
 returns : tie.Need-returns
 returns c = sets_over (c.args.a ∷ c.args.b ∷ []) c.args.answer.now (omega (arith, c.requires))
 
-pub put-two_spec : {M : Type 1} → statement M
-put-two_spec = tie.close (tie.spec slice-write-answer slice-write-answer-2 same_length returns)
+pub put_two_spec : {M : Type 1} → statement M
+put_two_spec = tie.close (tie.spec slice-write-answer slice-write-answer-2 same_length returns)

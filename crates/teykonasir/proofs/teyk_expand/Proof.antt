@@ -9,26 +9,26 @@ use Rattle.escapes.proofs.apply_string_escapes.Reads as apply-string-escapes-rea
 use Rattle.teykonasir.proofs.expand_code.Reads as expand-code-reads
 use Rattle.teykonasir.proofs.put_expanded.Reads as put-expanded-reads
 
-returns : tie.Need-returns
-returns c = expand-short _ _ _ _ _ c.if1.true
+returns : tie.Need-returns-then-answer-lt4
+returns c = expand-short _ _ _ _ _ c.if-answer-lt4.true
 
-apply-string-escapes-requires : tie.Need-apply-string-escapes-requires
+apply-string-escapes-requires : tie.Need-apply_string_escapes-e-requires
 apply-string-escapes-requires c κs = search rules
 
-put-expanded-requires : tie.Need-put-expanded-requires
+put-expanded-requires : tie.Need-put_expanded-requires
 put-expanded-requires c κs = search rules
 
-expand-code-requires : tie.Need-expand-code-requires
+expand-code-requires : tie.Need-expand_code-requires
 expand-code-requires c κs = search rules
 
-same_length : tie.Need-same-length
+same_length : tie.Need-shape_of-buffer
 same_length c = search rules
 
-same-length-2 : tie.Need-same-length-2
+same-length-2 : tie.Need-shape_of-answer
 same-length-2 c = search rules
 
-returns-2 : tie.Need-returns-2
-returns-2 c = expand-whole _ _ _ _ _ c.before.before.before.before.before.before.before.before.before.if1.false _ c.before.before.before.before.before.before.before.apply-string-escapes.ensures.0 _ _ _ c.expand-code.ensures c.before.before.before.before.before.before.before.apply-string-escapes.ensures.1 c.before.before.before.put-expanded.ensures
+returns-2 : tie.Need-returns
+returns-2 c = expand-whole _ _ _ _ _ c.if-answer-lt4.false _ c.apply_string_escapes-e.ensures.0 _ _ _ c.expand_code.ensures c.apply_string_escapes-e.ensures.1 c.put_expanded.ensures
 
 pub teyk_expand_spec : {M : Type 1} → statement M
 teyk_expand_spec =

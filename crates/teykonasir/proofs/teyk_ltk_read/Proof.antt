@@ -11,32 +11,32 @@ use Rattle.teykonasir.proofs.answer_place.Reads as answer-place-reads
 use Rattle.teykonasir.proofs.put_three.Reads as put-three-reads
 use Rattle.ltk.proofs.read_numbers.Reads as read-numbers-reads
 
-returns : tie.Need-returns
-returns c = read_short _ _ _ c.if1.true
+returns : tie.Need-returns-then-answer-lt3
+returns c = read_short _ _ _ c.if-answer-lt3.true
 
-read-numbers-requires : tie.Need-read-numbers-requires
+read-numbers-requires : tie.Need-read_numbers-reading-requires
 read-numbers-requires c κs = search rules
 
-answer-code-requires : tie.Need-answer-code-requires
+answer-code-requires : tie.Need-answer_code-code-requires
 answer-code-requires c κs = search rules
 
-answer-place-requires : tie.Need-answer-place-requires
+answer-place-requires : tie.Need-answer_place-at-requires
 answer-place-requires c κs = search rules
 
-answer-count-requires : tie.Need-answer-count-requires
+answer-count-requires : tie.Need-answer_count-stored-requires
 answer-count-requires c κs = search rules
 
-put-three-requires : tie.Need-put-three-requires
+put-three-requires : tie.Need-put_three-requires
 put-three-requires c κs = search rules
 
-same_length : tie.Need-same-length
+same_length : tie.Need-shape_of-records
 same_length c = search rules
 
-same-length-2 : tie.Need-same-length-2
+same-length-2 : tie.Need-shape_of-answer
 same-length-2 c = search rules
 
-returns-2 : tie.Need-returns-2
-returns-2 c = read_whole _ _ _ c.before.before.before.before.before.before.before.before.before.before.before.if1.false _ c.before.before.before.before.before.before.before.before.before.read-numbers.ensures.0 _ _ _ _ _ c.before.before.before.before.before.before.answer-code.ensures c.before.before.before.before.before.answer-place.ensures c.before.before.before.before.answer-count.ensures c.before.before.before.before.before.before.before.before.before.read-numbers.ensures.1 c.before.before.put_three.ensures
+returns-2 : tie.Need-returns
+returns-2 c = read_whole _ _ _ c.if-answer-lt3.false _ c.read_numbers-reading.ensures.0 _ _ _ _ _ c.answer_code-code.ensures c.answer_place-at.ensures c.answer_count-stored.ensures c.read_numbers-reading.ensures.1 c.put_three.ensures
 
 pub teyk_ltk_read_spec : {M : Type 1} → statement M
 teyk_ltk_read_spec =

@@ -9,47 +9,47 @@ use Rattle.text.proofs.code_name.Reads as code-name-reads
 use Rattle.teykonasir.proofs.came_code.Reads as came-code-reads
 use Rattle.teykonasir.proofs.came_length.Reads as came-length-reads
 
-returns : tie.Need-returns
-returns c = code-short _ _ _ c.if1.true
+returns : tie.Need-returns-then-answer-lt1
+returns c = code-short _ _ _ c.if-answer-lt1.true
 
-slice-write-answer : tie.Need-slice-write-answer
+slice-write-answer : tie.Need-bounds-answer-0
 slice-write-answer c = search rules
 
-same_length : tie.Need-same-length
+same_length : tie.Need-shape_of-answer-then-code-lt1
 same_length c = search rules
 
-returns-2 : tie.Need-returns-2
-returns-2 c = code_below _ _ _ c.before.if1.false c.if2.true
+returns-2 : tie.Need-returns-then-code-lt1
+returns-2 c = code_below _ _ _ c.if-answer-lt1.false c.if-code-lt1.true
 
-slice-write-answer-2 : tie.Need-slice-write-answer-2
+slice-write-answer-2 : tie.Need-bounds-answer-0-then-code-ge30
 slice-write-answer-2 c = search rules
 
-same-length-2 : tie.Need-same-length-2
+same-length-2 : tie.Need-shape_of-answer-then-code-ge30
 same-length-2 c = search rules
 
-returns-3 : tie.Need-returns-3
-returns-3 c = code-above _ _ _ c.before.before.if1.false c.before.if2.false c.if3.true
+returns-3 : tie.Need-returns-then-code-ge30
+returns-3 c = code-above _ _ _ c.if-answer-lt1.false c.if-code-lt1.false c.if-code-ge30.true
 
-code-name-requires : tie.Need-code-name-requires
+code-name-requires : tie.Need-code_name-came-requires
 code-name-requires c κs = search rules
 
-came-length-requires : tie.Need-came-length-requires
+came-length-requires : tie.Need-came_length-requires
 came-length-requires c κs = search rules
 
-slice-write-answer-3 : tie.Need-slice-write-answer-3
+slice-write-answer-3 : tie.Need-bounds-answer-0-2
 slice-write-answer-3 c = search rules
 
-came-code-requires : tie.Need-came-code-requires
+came-code-requires : tie.Need-came_code-requires
 came-code-requires c κs = search rules
 
-same-length-3 : tie.Need-same-length-3
+same-length-3 : tie.Need-shape_of-buffer
 same-length-3 c = search rules
 
-same-length-4 : tie.Need-same-length-4
+same-length-4 : tie.Need-shape_of-answer
 same-length-4 c = search rules
 
-returns-4 : tie.Need-returns-4
-returns-4 c = code_came _ _ _ c.before.before.before.before.before.before.before.before.if1.false c.before.before.before.before.before.before.before.if2.false c.before.before.before.before.before.before.if3.false _ _ c.before.before.before.before.code-name.ensures.0 c.before.before.before.before.code-name.ensures.1 _ _ c.came-code.ensures c.before.came-length.ensures
+returns-4 : tie.Need-returns
+returns-4 c = code_came _ _ _ c.if-answer-lt1.false c.if-code-lt1.false c.if-code-ge30.false _ _ c.code_name-came.ensures.0 c.code_name-came.ensures.1 _ _ c.came_code.ensures c.came_length.ensures
 
 pub teyk_name_of_code_spec : {M : Type 1} → statement M
 teyk_name_of_code_spec =

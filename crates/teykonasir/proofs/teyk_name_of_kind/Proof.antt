@@ -9,38 +9,38 @@ use Rattle.text.proofs.kind_name.Reads as kind-name-reads
 use Rattle.teykonasir.proofs.came_code.Reads as came-code-reads
 use Rattle.teykonasir.proofs.came_length.Reads as came-length-reads
 
-returns : tie.Need-returns
-returns c = kind_short _ _ _ c.if1.true
+returns : tie.Need-returns-then-answer-lt1
+returns c = kind_short _ _ _ c.if-answer-lt1.true
 
-slice-write-answer : tie.Need-slice-write-answer
+slice-write-answer : tie.Need-bounds-answer-0
 slice-write-answer c = search rules
 
-same_length : tie.Need-same-length
+same_length : tie.Need-shape_of-answer-then-kind-ge54
 same_length c = search rules
 
-returns-2 : tie.Need-returns-2
-returns-2 c = kind_none _ _ _ c.before.if1.false c.if2.true
+returns-2 : tie.Need-returns-then-kind-ge54
+returns-2 c = kind_none _ _ _ c.if-answer-lt1.false c.if-kind-ge54.true
 
-kind-name-requires : tie.Need-kind-name-requires
+kind-name-requires : tie.Need-kind_name-came-requires
 kind-name-requires c κs = search rules
 
-came-length-requires : tie.Need-came-length-requires
+came-length-requires : tie.Need-came_length-requires
 came-length-requires c κs = search rules
 
-slice-write-answer-2 : tie.Need-slice-write-answer-2
+slice-write-answer-2 : tie.Need-bounds-answer-0-2
 slice-write-answer-2 c = search rules
 
-came-code-requires : tie.Need-came-code-requires
+came-code-requires : tie.Need-came_code-requires
 came-code-requires c κs = search rules
 
-same-length-2 : tie.Need-same-length-2
+same-length-2 : tie.Need-shape_of-buffer
 same-length-2 c = search rules
 
-same-length-3 : tie.Need-same-length-3
+same-length-3 : tie.Need-shape_of-answer
 same-length-3 c = search rules
 
-returns-3 : tie.Need-returns-3
-returns-3 c = kind_came _ _ _ c.before.before.before.before.before.before.before.if1.false c.before.before.before.before.before.before.if2.false _ _ c.before.before.before.before.kind-name.ensures.0 c.before.before.before.before.kind-name.ensures.1 _ _ c.came-code.ensures c.before.came-length.ensures
+returns-3 : tie.Need-returns
+returns-3 c = kind_came _ _ _ c.if-answer-lt1.false c.if-kind-ge54.false _ _ c.kind_name-came.ensures.0 c.kind_name-came.ensures.1 _ _ c.came_code.ensures c.came_length.ensures
 
 pub teyk_name_of_kind_spec : {M : Type 1} → statement M
 teyk_name_of_kind_spec =

@@ -9,26 +9,26 @@ use Rattle.place.proofs.place_at.Reads as place-at-reads
 use Rattle.teykonasir.proofs.located_code.Reads as located-code-reads
 use Rattle.teykonasir.proofs.located_number.Reads as located-number-reads
 
-returns : tie.Need-returns
-returns c = place_at-short _ _ _ _ c.if1.true
+returns : tie.Need-returns-then-answer-lt1
+returns c = place_at-short _ _ _ _ c.if-answer-lt1.true
 
-place-at-requires : tie.Need-place-at-requires
+place-at-requires : tie.Need-place_at-found-requires
 place-at-requires c κs = search rules
 
-located-number-requires : tie.Need-located-number-requires
+located-number-requires : tie.Need-located_number-requires
 located-number-requires c κs = search rules
 
-slice-write-answer : tie.Need-slice-write-answer
+slice-write-answer : tie.Need-bounds-answer-0
 slice-write-answer c = search rules
 
-located-code-requires : tie.Need-located-code-requires
+located-code-requires : tie.Need-located_code-requires
 located-code-requires c κs = search rules
 
-same_length : tie.Need-same-length
+same_length : tie.Need-shape_of-answer
 same_length c = search rules
 
-returns-2 : tie.Need-returns-2
-returns-2 c = place_at-whole _ _ _ _ c.before.before.before.if1.false _ c.before.before.place_at.ensures _ _ c.located-code.ensures c.before.located-number.ensures
+returns-2 : tie.Need-returns
+returns-2 c = place_at-whole _ _ _ _ c.if-answer-lt1.false _ c.place_at-found.ensures _ _ c.located_code.ensures c.located_number.ensures
 
 pub teyk_place_at_spec : {M : Type 1} → statement M
 teyk_place_at_spec =

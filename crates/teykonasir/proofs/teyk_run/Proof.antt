@@ -9,26 +9,26 @@ use Rattle.teykonasir.proofs.put_ran.Reads as put-ran-reads
 use Rattle.run.proofs.run_numbers.Reads as run-numbers-reads
 use Rattle.tok.proofs.start.Reads as start-reads
 
-returns : tie.Need-returns
-returns c = run_short _ _ _ _ _ c.if1.true
+returns : tie.Need-returns-then-answer-lt4
+returns c = run_short _ _ _ _ _ c.if-answer-lt4.true
 
 start-requires : tie.Need-start-requires
 start-requires c κs = search rules
 
-run-numbers-requires : tie.Need-run-numbers-requires
+run-numbers-requires : tie.Need-run_numbers-ran-requires
 run-numbers-requires c κs = search rules
 
-put-ran-requires : tie.Need-put-ran-requires
+put-ran-requires : tie.Need-put_ran-requires
 put-ran-requires c κs = search rules
 
-same_length : tie.Need-same-length
+same_length : tie.Need-shape_of-records
 same_length c = search rules
 
-same-length-2 : tie.Need-same-length-2
+same-length-2 : tie.Need-shape_of-answer
 same-length-2 c = search rules
 
-returns-2 : tie.Need-returns-2
-returns-2 c = run-whole _ _ _ _ _ c.before.before.before.before.before.before.before.before.before.if1.false _ c.before.before.before.before.before.before.before.start.ensures _ c.before.before.before.before.before.before.run-numbers.ensures.0 _ _ _ c.before.before.put-ran.ensures.0 c.before.before.before.before.before.before.run-numbers.ensures.1 c.before.before.put-ran.ensures.1
+returns-2 : tie.Need-returns
+returns-2 c = run-whole _ _ _ _ _ c.if-answer-lt4.false _ c.start.ensures _ c.run_numbers-ran.ensures.0 _ _ _ c.put_ran.ensures.0 c.run_numbers-ran.ensures.1 c.put_ran.ensures.1
 
 pub teyk_run_spec : {M : Type 1} → statement M
 teyk_run_spec =

@@ -18,58 +18,58 @@ short_by : (x : Chosen) (s : List ℕ) (shift limit : ℕ) (records answer : Lis
 short_by (AReading rd) s shift limit records answer h = short 6 _ _ _ _ _ h
 short_by Nothing s shift limit records answer h = short 6 _ _ _ _ _ h
 
-returns : tie.Need-returns
+returns : tie.Need-returns-then-answer-lt6
 unfolding read_call
 returns c =
-    let a = c.before.before.before.before.args in
-    short_by (reading_of a.reading) a.text.now a.shift a.limit a.records.now a.answer.now c.if1.true
+    let a = c.args in
+    short_by (reading_of a.reading) a.text.now a.shift a.limit a.records.now a.answer.now c.if-answer-lt6.true
 
-reading-of-requires : tie.Need-reading-of-requires
+reading-of-requires : tie.Need-reading_of-requires
 reading-of-requires c κs = search rules
 
-enum-known-rd : tie.Need-enum-known-rd
+enum-known-rd : tie.Need-enum_known-rd
 enum-known-rd c = search rules
 
-start-in-requires : tie.Need-start-in-requires
+start-in-requires : tie.Need-start_in-requires
 start-in-requires c κs = search rules
 
-read-numbers-requires : tie.Need-read-numbers-requires
+read-numbers-requires : tie.Need-read_numbers-ran-requires
 read-numbers-requires c κs = search rules
 
-put-read-requires : tie.Need-put-read-requires
+put-read-requires : tie.Need-put_read-requires
 put-read-requires c κs = search rules
 
-enum_told : tie.Need-enum-told
+enum_told : tie.Need-enum_told-1
 enum_told c = search rules
 
-put-six-requires : tie.Need-put-six-requires
+put-six-requires : tie.Need-put_six-requires
 put-six-requires c κs = search rules
 
-same_length : tie.Need-same-length
+same_length : tie.Need-shape_of-records
 same_length c = search rules
 
-same-length-2 : tie.Need-same-length-2
+same-length-2 : tie.Need-shape_of-answer-in-Reading
 same-length-2 c = search rules
 
-returns-2 : tie.Need-returns-2
+returns-2 : tie.Need-returns-in-Reading
 unfolding read_call
 returns-2 c =
-    let e = sym c.before.before.before.before.before.before.before.before.before.before.before.before.reading-of.ensures ∙ c.before.before.before.before.before.before.before.before.before.before.rd.given.1 in
-    let l = c.before.before.before.before.before.before.before.before.before.before.before.before.before.if1.false in
-    let s = c.before.before.before.before.before.before.before.start-in.ensures in
-    let r = c.before.before.before.before.before.before.read-numbers.ensures in
-    let p = c.before.before.put-read.ensures in
+    let e = sym c.reading_of.ensures ∙ c.in-Reading.is in
+    let l = c.if-answer-lt6.false in
+    let s = c.start_in.ensures in
+    let r = c.read_numbers-ran.ensures in
+    let p = c.put_read.ensures in
     rw e (whole 6 _ _ _ _ _ (omega (arith, l)) _ _ _ (p.0 ∙ rw (r.0, s)) (r.1 ∙ rw s) (p.1 ∙ rw (r.0, s)))
 
-same-length-3 : tie.Need-same-length-3
+same-length-3 : tie.Need-shape_of-answer-in-Nothing
 same-length-3 c = search rules
 
-returns-3 : tie.Need-returns-3
+returns-3 : tie.Need-returns-in-Nothing
 unfolding read_call
 returns-3 c =
-    let e = sym c.before.before.before.before.before.before.reading-of.ensures ∙ c.before.before.before.before.enum_told.given.1 in
-    let l = c.before.before.before.before.before.before.before.if1.false in
-    let p = c.before.before.put_six.ensures in
+    let e = sym c.reading_of.ensures ∙ c.in-Nothing.is in
+    let l = c.if-answer-lt6.false in
+    let p = c.put_six.ensures in
     rw e (whole 6 _ _ _ _ _ (omega (arith, l)) _ _ _ p.0 refl p.1)
 
 pub teyk_read_spec : {M : Type 1} → statement M

@@ -15,48 +15,48 @@ use Rattle.teykonasir_sheet.proofs.taken_code.Reads as taken-code-reads
 use Rattle.teykonasir_sheet.proofs.taken_place.Reads as taken-place-reads
 
 -- src/lib.rt:51:9
-returns : tie.Need-returns
+returns : tie.Need-returns-then-answer-lt2
 unfolding sheet_call
-returns c = short 2 _ _ _ _ _ c.if1.true
+returns c = short 2 _ _ _ _ _ c.if-answer-lt2.true
 
 -- src/lib.rt:53:9
-take-requires : tie.Need-take-requires
+take-requires : tie.Need-take-took-requires
 take-requires c κs = search rules
 
 -- src/lib.rt:54:9
-taken-code-requires : tie.Need-taken-code-requires
+taken-code-requires : tie.Need-taken_code-code-requires
 taken-code-requires c κs = search rules
 
 -- src/lib.rt:55:9
-taken-place-requires : tie.Need-taken-place-requires
+taken-place-requires : tie.Need-taken_place-place-requires
 taken-place-requires c κs = search rules
 
 -- src/lib.rt:56:5
-slice-write-answer : tie.Need-slice-write-answer
+slice-write-answer : tie.Need-bounds-answer-0
 slice-write-answer c = search rules
 
 -- src/lib.rt:57:5
-slice-write-answer-2 : tie.Need-slice-write-answer-2
+slice-write-answer-2 : tie.Need-bounds-answer-1
 slice-write-answer-2 c = search rules
 
 -- src/lib.rt:42:1
-same_length : tie.Need-same-length
+same_length : tie.Need-shape_of-sheet
 same_length c = search rules
 
 -- src/lib.rt:42:1
-same-length-2 : tie.Need-same-length-2
+same-length-2 : tie.Need-shape_of-answer
 same-length-2 c = search rules
 
 -- src/lib.rt:42:1
-returns-2 : tie.Need-returns-2
+returns-2 : tie.Need-returns
 unfolding sheet_call
 returns-2 c =
-    let a = c.before.before.before.before.before.before.before.before.before.before.args.answer.now in
-    let t = c.before.before.before.before.take.ensures in
-    let d = c.before.taken-code.ensures ∙ ap taken_code t.0 in
-    let p = c.taken-place.ensures ∙ ap taken_place t.0 in
-    let l = c.before.before.before.before.before.before.if1.false in
-    whole 2 _ _ _ _ a (omega (arith, l)) _ _ _ d t.1 (sets_over (c.before.taken-code.result ∷ c.taken-place.result ∷ []) a (omega (arith, l)) ∙ rw (d, p))
+    let a = c.args.answer.now in
+    let t = c.take-took.ensures in
+    let d = c.taken_code-code.ensures ∙ ap taken_code t.0 in
+    let p = c.taken_place-place.ensures ∙ ap taken_place t.0 in
+    let l = c.if-answer-lt2.false in
+    whole 2 _ _ _ _ a (omega (arith, l)) _ _ _ d t.1 (sets_over (c.taken_code-code.result ∷ c.taken_place-place.result ∷ []) a (omega (arith, l)) ∙ rw (d, p))
 
 pub teyk_sheet_take_spec : {M : Type 1} → statement M
 teyk_sheet_take_spec =

@@ -4,10 +4,8 @@ use Rattle.reading.specs.Answers.{more}
 use borrow.Author.Rules.{rules}
 use Rattle.tok.proofs.more.Statement.{statement}
 use Rattle.tok.proofs.more.Tie as tie
-use Rattle.tok.proofs.more.Reads as reads
-use Rattle.tok.proofs.more.Lts as lts
 
-add-t5 : tie.Need-overflow-add-t5
+add-t5 : tie.Need-overflow_add-result
 add-t5 c = search rules
 
 returns : tie.Need-returns

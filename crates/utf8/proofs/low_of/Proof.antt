@@ -3,21 +3,19 @@ use Rattle.utf8.specs.Utf8.{low}
 use Rattle.utf8.specs.Picks.{picks}
 use Rattle.utf8.proofs.low_of.Statement.{statement}
 use Rattle.utf8.proofs.low_of.Tie as tie
-use Rattle.utf8.proofs.low_of.Reads as reads
-use Rattle.utf8.proofs.low_of.Lts as lts
 
 -- src/lib.rt:31:9
-returns : tie.Need-returns
+returns : tie.Need-returns-then-a-eq224
 unfolding low
 returns c = (search picks depth 8, search rules)
 
 -- src/lib.rt:34:9
-returns-2 : tie.Need-returns-2
+returns-2 : tie.Need-returns-then-a-eq240
 unfolding low
 returns-2 c = (search picks depth 8, search rules)
 
 -- src/lib.rt:27:1
-returns-3 : tie.Need-returns-3
+returns-3 : tie.Need-returns
 unfolding low
 returns-3 c = (search picks depth 8, search rules)
 

@@ -9,17 +9,17 @@ use Rattle.words.specs.Letters.{spells_byte}
 use Rattle.words.proofs.four.Statement.{statement}
 use Rattle.words.proofs.four.Tie as tie
 
-shared-slice-read-result : tie.Need-shared-slice-read-result
+shared-slice-read-result : tie.Need-bounds-s-at
 shared-slice-read-result c = search rules
 
-add-three : tie.Need-overflow-add-three
+add-three : tie.Need-overflow_add-at
 add-three c = search rules
 
 three-requires : tie.Need-three-requires
 three-requires c κs = search rules
 
 returns : tie.Need-returns
-returns c = ap (λ (d : Bool). eqb (get_or c.before.before.before.args.s.now c.before.before.before.args.at 0) c.before.before.before.args.a && d) c.three.ensures ∙ sym (spells_byte c.before.before.before.args.a _ c.before.before.before.args.s.now c.before.before.before.args.at c.before.before.before.args.p (omega arith) (omega arith))
+returns c = ap (λ (d : Bool). eqb (get_or c.args.s.now c.args.at 0) c.args.a && d) c.three.ensures ∙ sym (spells_byte c.args.a _ c.args.s.now c.args.at c.args.p (omega arith) (omega arith))
 
 pub four_spec : {M : Type 1} → statement M
 four_spec = tie.close (tie.spec shared-slice-read-result add-three three-requires returns)

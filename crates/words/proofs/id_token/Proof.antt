@@ -5,20 +5,20 @@ use Rattle.reading.specs.Words.{id_token}
 use Rattle.words.proofs.id_token.Statement.{statement}
 use Rattle.words.proofs.id_token.Tie as tie
 
-is-next-requires : tie.Need-is-next-requires
+is-next-requires : tie.Need-is_next-requires
 is-next-requires c κs = search rules
 
 deliver-requires : tie.Need-deliver-requires
 deliver-requires c κs = search rules
 
-returns : tie.Need-returns
+returns : tie.Need-returns-then-is_next
 unfolding id_token
 returns c = search nexts
 
 deliver-requires-2 : tie.Need-deliver-requires-2
 deliver-requires-2 c κs = search rules
 
-returns-2 : tie.Need-returns-2
+returns-2 : tie.Need-returns
 unfolding id_token
 returns-2 c = search nexts
 

@@ -13,36 +13,36 @@ four-requires c κs = search rules
 plain-requires : tie.Need-plain-requires
 plain-requires c κs = search rules
 
-returns : tie.Need-returns
+returns : tie.Need-returns-then-four
 unfolding keyword_token long_as keywords
-returns c rd = rw (word_long rd c.before.before.before.before.args.s.now c.before.before.before.before.args.o c.before.before.before.before.args.p 4 c.before.before.before.before.requires.0 refl refl) (search flags depth 12)
+returns c rd = rw (word_long rd c.args.s.now c.args.o c.args.p 4 c.requires.0 refl refl) (search flags depth 12)
 
 four-requires-2 : tie.Need-four-requires-2
 four-requires-2 c κs = search rules
 
-plain-requires-2 : tie.Need-plain-requires-2
+plain-requires-2 : tie.Need-plain-requires-then-four-2
 plain-requires-2 c κs = search rules
 
-returns-2 : tie.Need-returns-2
+returns-2 : tie.Need-returns-then-four-2
 unfolding keyword_token long_as keywords
-returns-2 c rd = rw (word_long rd c.before.before.before.before.before.before.args.s.now c.before.before.before.before.before.before.args.o c.before.before.before.before.before.before.args.p 4 c.before.before.before.before.before.before.requires.0 refl refl) (search flags depth 12)
+returns-2 c rd = rw (word_long rd c.args.s.now c.args.o c.args.p 4 c.requires.0 refl refl) (search flags depth 12)
 
 four-requires-3 : tie.Need-four-requires-3
 four-requires-3 c κs = search rules
 
-plain-requires-3 : tie.Need-plain-requires-3
+plain-requires-3 : tie.Need-plain-requires-then-four-3
 plain-requires-3 c κs = search rules
 
-returns-3 : tie.Need-returns-3
+returns-3 : tie.Need-returns-then-four-3
 unfolding keyword_token long_as keywords
-returns-3 c rd = rw (word_long rd c.before.before.before.before.before.before.before.before.args.s.now c.before.before.before.before.before.before.before.before.args.o c.before.before.before.before.before.before.before.before.args.p 4 c.before.before.before.before.before.before.before.before.requires.0 refl refl) (search flags depth 12)
+returns-3 c rd = rw (word_long rd c.args.s.now c.args.o c.args.p 4 c.requires.0 refl refl) (search flags depth 12)
 
-id-token-requires : tie.Need-id-token-requires
+id-token-requires : tie.Need-id_token-requires
 id-token-requires c κs = search rules
 
-returns-4 : tie.Need-returns-4
+returns-4 : tie.Need-returns
 unfolding keyword_token long_as keywords
-returns-4 c rd = rw (word_long rd c.before.before.before.before.before.before.before.before.args.s.now c.before.before.before.before.before.before.before.before.args.o c.before.before.before.before.before.before.before.before.args.p 4 c.before.before.before.before.before.before.before.before.requires.0 refl refl) (search flags depth 12)
+returns-4 c rd = rw (word_long rd c.args.s.now c.args.o c.args.p 4 c.requires.0 refl refl) (search flags depth 12)
 
 pub word_4_spec : {M : Type 1} → statement M
 word_4_spec =

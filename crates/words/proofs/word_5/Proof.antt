@@ -13,26 +13,26 @@ five-requires c κs = search rules
 plain-requires : tie.Need-plain-requires
 plain-requires c κs = search rules
 
-returns : tie.Need-returns
+returns : tie.Need-returns-then-five
 unfolding keyword_token long_as keywords
-returns c rd = rw (word_long rd c.before.before.before.before.args.s.now c.before.before.before.before.args.o c.before.before.before.before.args.p 5 c.before.before.before.before.requires.0 refl refl) (search flags depth 12)
+returns c rd = rw (word_long rd c.args.s.now c.args.o c.args.p 5 c.requires.0 refl refl) (search flags depth 12)
 
 five-requires-2 : tie.Need-five-requires-2
 five-requires-2 c κs = search rules
 
-plain-requires-2 : tie.Need-plain-requires-2
+plain-requires-2 : tie.Need-plain-requires-then-five-2
 plain-requires-2 c κs = search rules
 
-returns-2 : tie.Need-returns-2
+returns-2 : tie.Need-returns-then-five-2
 unfolding keyword_token long_as keywords
-returns-2 c rd = rw (word_long rd c.before.before.before.before.before.before.args.s.now c.before.before.before.before.before.before.args.o c.before.before.before.before.before.before.args.p 5 c.before.before.before.before.before.before.requires.0 refl refl) (search flags depth 12)
+returns-2 c rd = rw (word_long rd c.args.s.now c.args.o c.args.p 5 c.requires.0 refl refl) (search flags depth 12)
 
-id-token-requires : tie.Need-id-token-requires
+id-token-requires : tie.Need-id_token-requires
 id-token-requires c κs = search rules
 
-returns-3 : tie.Need-returns-3
+returns-3 : tie.Need-returns
 unfolding keyword_token long_as keywords
-returns-3 c rd = rw (word_long rd c.before.before.before.before.before.before.args.s.now c.before.before.before.before.before.before.args.o c.before.before.before.before.before.before.args.p 5 c.before.before.before.before.before.before.requires.0 refl refl) (search flags depth 12)
+returns-3 c rd = rw (word_long rd c.args.s.now c.args.o c.args.p 5 c.requires.0 refl refl) (search flags depth 12)
 
 pub word_5_spec : {M : Type 1} → statement M
 word_5_spec =

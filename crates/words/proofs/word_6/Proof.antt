@@ -13,16 +13,16 @@ six-requires c κs = search rules
 plain-requires : tie.Need-plain-requires
 plain-requires c κs = search rules
 
-returns : tie.Need-returns
+returns : tie.Need-returns-then-six
 unfolding keyword_token long_as keywords
-returns c rd = rw (word_long rd c.before.before.before.before.args.s.now c.before.before.before.before.args.o c.before.before.before.before.args.p 6 c.before.before.before.before.requires.0 refl refl) (search flags depth 12)
+returns c rd = rw (word_long rd c.args.s.now c.args.o c.args.p 6 c.requires.0 refl refl) (search flags depth 12)
 
-id-token-requires : tie.Need-id-token-requires
+id-token-requires : tie.Need-id_token-requires
 id-token-requires c κs = search rules
 
-returns-2 : tie.Need-returns-2
+returns-2 : tie.Need-returns
 unfolding keyword_token long_as keywords
-returns-2 c rd = rw (word_long rd c.before.before.before.before.args.s.now c.before.before.before.before.args.o c.before.before.before.before.args.p 6 c.before.before.before.before.requires.0 refl refl) (search flags depth 12)
+returns-2 c rd = rw (word_long rd c.args.s.now c.args.o c.args.p 6 c.requires.0 refl refl) (search flags depth 12)
 
 pub word_6_spec : {M : Type 1} → statement M
 word_6_spec = tie.close (tie.spec six-requires plain-requires returns id-token-requires returns-2)

@@ -6,19 +6,19 @@ use Rattle.asked.proofs.First.{is-first}
 use Rattle.asked.proofs.expansions.answer_differs.Statement.{statement}
 use Rattle.asked.proofs.expansions.answer_differs.Tie as tie
 
-returns : tie.Need-returns
+returns : tie.Need-returns-in-Same
 unfolding answer_differs
 returns c =
-    let n = c.before.before.before.before.numbers-differ.ensures in
-    let e = rw c.before.before.before.before.before.front.ensures at (sym n ∙ c.before.before.enum_told.given.1) in
-    rw e (rw c.before.rest.ensures at c.bytes-differ.ensures)
+    let n = c.numbers_differ-d.ensures in
+    let e = rw c.front.ensures at (sym n ∙ c.in-Same.is) in
+    rw e (rw c.rest.ensures at c.bytes_differ.ensures)
 
-returns-2 : tie.Need-returns-2
+returns-2 : tie.Need-returns-in_default
 unfolding answer_differs
-returns-2 c = rw (← c.before.before.front.ensures, ← c.before.numbers-differ.ensures) (is-first _ _ c.match.keys2)
+returns-2 c = rw (← c.front.ensures, ← c.numbers_differ-d.ensures) (is-first _ _ c.in_default.in_default-own.keys2)
 
-pub answer-differs_spec : {M : Type 1} → statement M
-answer-differs_spec =
+pub answer_differs_spec : {M : Type 1} → statement M
+answer_differs_spec =
     tie.close
     (tie.spec
     (λ c κs. search rules)

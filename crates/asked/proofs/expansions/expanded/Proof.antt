@@ -7,51 +7,46 @@ use Rattle.asked.specs.Expansions.{expanded_differs}
 use borrow.Author.Rules.{rules}
 use Rattle.asked.proofs.expansions.expanded.Statement.{statement}
 use Rattle.asked.proofs.expansions.expanded.Tie as tie
-use Rattle.asked.proofs.expansions.expanded.Reads as reads
-use Rattle.asked.proofs.expansions.expanded.Lts as lts
-use Rattle.asked.proofs.expansions.expand.Reads as expand-reads
-use Rattle.recorded.proofs.get.Reads as get-reads
-use Rattle.recorded.proofs.rest.Reads as rest-reads
 
-get-requires : tie.Need-get-requires
+get-requires : tie.Need-get-room-requires
 get-requires c κs = search rules
 
-returns : tie.Need-returns
+returns : tie.Need-returns-then-room-gt-ROOM
 unfolding expanded_differs
 returns c =
-    let g = c.before.get.ensures in
-    rw (lt-ltb 4096 (get_or c.before.before.before.before.args.recorded.now 2 0) (omega arith), g)
+    let g = c.get-room.ensures in
+    rw (lt-ltb 4096 (get_or c.args.recorded.now 2 0) (omega arith), g)
 
-get-requires-2 : tie.Need-get-requires-2
+get-requires-2 : tie.Need-get-requires
 get-requires-2 c κs = search rules
 
-get-requires-3 : tie.Need-get-requires-3
+get-requires-3 : tie.Need-get-requires-2
 get-requires-3 c κs = search rules
 
 rest-requires : tie.Need-rest-requires
 rest-requires c κs = search rules
 
-sub-expand : tie.Need-overflow-sub-expand
+sub-expand : tie.Need-slice_bounds-expand-count
 sub-expand c = search rules
 
-part-buffer-start : tie.Need-slice-bounds-buffer-start
+part-buffer-start : tie.Need-slice_bounds-buffer-start
 part-buffer-start c = search rules
 
-part-buffer-end : tie.Need-slice-bounds-buffer-end
+part-buffer-end : tie.Need-slice_bounds-buffer-end
 part-buffer-end c = search rules
 
 expand-requires : tie.Need-expand-requires
 expand-requires c κs = search rules
 
-returns-2 : tie.Need-returns-2
+returns-2 : tie.Need-returns
 unfolding expanded_differs
 returns-2 c =
     let b = c.before.before.before.before.before.before.before in
-    let g = b.get.ensures in
-    let room = get_or b.before.before.before.args.recorded.now 2 0 in
+    let g = b.get-room.ensures in
+    let room = get_or b.args.recorded.now 2 0 in
     let l = le-ltb 4096 room (omega arith) in
-    let e = c.before.expand.ensures in
-    rw l (rw (g, c.before.before.before.rest.ensures, c.before.before.before.before.get3.ensures, c.before.before.before.before.before.get2.ensures, sub-zero room) at e)
+    let e = c.expand.ensures in
+    rw l (rw (g, c.rest.ensures, c.get-2.ensures, c.get.ensures, sub-zero room) at e)
 
 pub expanded_spec : {M : Type 1} → statement M
 expanded_spec =

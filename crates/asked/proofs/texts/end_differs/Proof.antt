@@ -5,24 +5,24 @@ use Rattle.asked.proofs.First.{is-first}
 use Rattle.asked.proofs.texts.end_differs.Statement.{statement}
 use Rattle.asked.proofs.texts.end_differs.Tie as tie
 
-returns : tie.Need-returns
+returns : tie.Need-returns-in-Same
 unfolding end_differs
 returns c =
     rw (
-      ← c.before.before.before.before.before.before.before.front.ensures,
-      ← c.before.before.before.before.before.numbers-differ.ensures,
-      c.before.before.before.enum_told.given.1,
-      ← c.before.before.rest.ensures,
-      ← c.before.size.ensures,
+      ← c.front.ensures,
+      ← c.numbers_differ-d.ensures,
+      c.in-Same.is,
+      ← c.rest.ensures,
+      ← c.size.ensures,
     )
-    c.length-differs.ensures
+    c.length_differs.ensures
 
-returns-2 : tie.Need-returns-2
+returns-2 : tie.Need-returns-in_default
 unfolding end_differs
-returns-2 c = rw (← c.before.before.before.front.ensures, ← c.before.numbers-differ.ensures) (is-first _ _ c.match.keys2)
+returns-2 c = rw (← c.front.ensures, ← c.numbers_differ-d.ensures) (is-first _ _ c.in_default.in_default-own.keys2)
 
-pub end-differs_spec : {M : Type 1} → statement M
-end-differs_spec =
+pub end_differs_spec : {M : Type 1} → statement M
+end_differs_spec =
     tie.close
     (tie.spec
     (λ c κs. search rules)

@@ -7,19 +7,19 @@ use Rattle.asked.specs.Calls.{not_passed, passed}
 use Rattle.asked.proofs.texts.is_read.Statement.{statement}
 use Rattle.asked.proofs.texts.is_read.Tie as tie
 
-returns : tie.Need-returns
+returns : tie.Need-returns-in-Refused
 unfolding is_read
-returns c = rw (not_passed _ _ _ _ (sym c.before.before.payload-check.ensures ∙ c.enum-told2.given.1))
+returns c = rw (not_passed _ _ _ _ (sym c.payload_check.ensures ∙ c.in-Refused.is))
 
-sub-result : tie.Need-overflow-sub-result
-sub-result c = let h = ranged _ _ _ _ (passed _ _ _ (sym c.before.before.before.before.payload-check.ensures ∙ c.before.before.enum_told.given.1)) in h.order
+sub-result : tie.Need-overflow_sub-result
+sub-result c = let h = ranged _ _ _ _ (passed _ _ _ (sym c.payload_check.ensures ∙ c.in-Passed.is)) in h.order
 
-returns-2 : tie.Need-returns-2
+returns-2 : tie.Need-returns
 unfolding is_read
-returns-2 c = rw (passed _ _ _ (sym c.before.before.before.before.payload-check.ensures ∙ c.before.before.enum_told.given.1), ← c.before.payload.ensures)
+returns-2 c = rw (passed _ _ _ (sym c.payload_check.ensures ∙ c.in-Passed.is), ← c.payload-part.ensures)
 
-pub is-read_spec : {M : Type 1} → statement M
-is-read_spec =
+pub is_read_spec : {M : Type 1} → statement M
+is_read_spec =
     tie.close
     (tie.spec
     (λ c κs. search rules)

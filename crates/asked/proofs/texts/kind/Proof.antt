@@ -4,10 +4,10 @@ use Rattle.utf8.specs.Picks.{flags}
 use Rattle.asked.proofs.texts.kind.Statement.{statement}
 use Rattle.asked.proofs.texts.kind.Tie as tie
 
-returns : tie.Need-returns
+returns : tie.Need-returns-then-is_read
 returns c = search flags
 
-returns-2 : tie.Need-returns-2
+returns-2 : tie.Need-returns
 returns-2 c = search flags
 
 pub kind_spec : {M : Type 1} → statement M

@@ -4,7 +4,7 @@ use Rattle.asked.proofs.texts.listed.Statement.{statement}
 use Rattle.asked.proofs.texts.listed.Tie as tie
 
 returns : tie.Need-returns
-returns c = let r = c.before.before.before.run-listed in rw (← c.before.before.before.before.start.ensures, ← c.before.before.before.before.before.before.blank.ensures, ← r.ensures.0, ← r.ensures.1) c.run-differs.ensures
+returns c = let r = c.run_listed-ran in rw (← c.start.ensures, ← c.blank-list.ensures, ← r.ensures.0, ← r.ensures.1) c.run_differs.ensures
 
 pub listed_spec : {M : Type 1} → statement M
 listed_spec =

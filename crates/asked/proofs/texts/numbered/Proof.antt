@@ -6,11 +6,11 @@ use Rattle.asked.proofs.texts.numbered.Tie as tie
 
 returns : tie.Need-returns
 returns c =
-    let r = c.before.before.before.run-numbers in
-    let e = room-tokens _ c.before.before.before.before.before.before.blank.ensures in
+    let r = c.run_numbers-ran in
+    let e = room-tokens _ c.blank-list.ensures in
     let p = rw e at r.ensures.0 in
     let q = rw e at r.ensures.1 in
-    rw (← c.before.before.before.before.start.ensures, ← c.before.before.before.before.before.before.blank.ensures, ← p, ← q) c.run-differs.ensures
+    rw (← c.start.ensures, ← c.blank-list.ensures, ← p, ← q) c.run_differs.ensures
 
 pub numbered_spec : {M : Type 1} → statement M
 numbered_spec =

@@ -6,10 +6,10 @@ use Rattle.asked.proofs.texts.run_differs.Tie as tie
 
 returns : tie.Need-returns
 unfolding run_differs
-returns c = rw (← c.before.before.size.ensures, ← c.before.front.ensures, ← c.before.before.before.before.before.code.ensures, ← c.before.before.before.before.place.ensures) c.answer-differs.ensures
+returns c = rw (← c.size.ensures, ← c.front.ensures, ← c.code.ensures, ← c.place.ensures) c.answer_differs.ensures
 
-pub run-differs_spec : {M : Type 1} → statement M
-run-differs_spec =
+pub run_differs_spec : {M : Type 1} → statement M
+run_differs_spec =
     tie.close
     (tie.spec
     (λ c κs. search rules)

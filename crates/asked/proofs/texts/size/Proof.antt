@@ -5,11 +5,11 @@ use Rattle.asked.specs.Texts.{size}
 use Rattle.asked.proofs.texts.size.Statement.{statement}
 use Rattle.asked.proofs.texts.size.Tie as tie
 
-returns : tie.Need-returns
+returns : tie.Need-returns-then-tokens-gt-TOKENS
 unfolding size
 returns c = search picks
 
-returns-2 : tie.Need-returns-2
+returns-2 : tie.Need-returns
 unfolding size
 returns-2 c = search picks
 

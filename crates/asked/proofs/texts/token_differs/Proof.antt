@@ -5,16 +5,16 @@ use Rattle.asked.specs.Texts.{token_differs}
 use Rattle.asked.proofs.texts.token_differs.Statement.{statement}
 use Rattle.asked.proofs.texts.token_differs.Tie as tie
 
-returns : tie.Need-returns
+returns : tie.Need-returns-then-recorded-at
 unfolding token_differs
-returns c = simp (le-leb _ _ c.if1.true)
+returns c = simp (le-leb _ _ c.if-recorded-at.true)
 
-returns-2 : tie.Need-returns-2
+returns-2 : tie.Need-returns
 unfolding token_differs
-returns-2 c = rw (lt-leb _ _ c.before.before.before.before.before.if1.false, ← c.before.before.before.before.kind.ensures, ← c.before.before.before.rest.ensures, ← c.before.before.front.ensures) c.numbers-differ.ensures
+returns-2 c = rw (lt-leb _ _ c.if-recorded-at.false, ← c.kind.ensures, ← c.rest.ensures, ← c.front.ensures) c.numbers_differ.ensures
 
-pub token-differs_spec : {M : Type 1} → statement M
-token-differs_spec =
+pub token_differs_spec : {M : Type 1} → statement M
+token_differs_spec =
     tie.close
     (tie.spec
     (λ c. search rules)

@@ -11,39 +11,39 @@ use Rattle.property.specs.Laws.{front-within}
 use Rattle.property.proofs.line.line_at.Statement.{statement}
 use Rattle.property.proofs.line.line_at.Tie as tie
 
-returns : tie.Need-returns
+returns : tie.Need-returns-then-s-at
 unfolding line_at
-returns c = let a = c.before.before.args in rw (le-ltb a.at (length a.s.now) (omega arith))
+returns c = let a = c.args in rw (le-ltb a.at (length a.s.now) (omega arith))
 
-pass-over-requires : tie.Need-pass-over-requires
+pass-over-requires : tie.Need-pass_over-end-requires
 pass-over-requires c κs = search rules
 
-sub-parse : tie.Need-overflow-sub-parse
+sub-parse : tie.Need-slice_bounds-parse-count
 sub-parse c = search rules
 
-part-parse-start : tie.Need-slice-bounds-parse-start
+part-parse-start : tie.Need-slice_bounds-parse-start
 part-parse-start c = search rules
 
-part-parse-end : tie.Need-slice-bounds-parse-end
-part-parse-end c = let a = c.before.before.before.args in omega (arith, front-within 'newline false a.s.now a.at (omega arith))
+part-parse-end : tie.Need-slice_bounds-parse-end
+part-parse-end c = let a = c.args in omega (arith, front-within 'newline false a.s.now a.at (omega arith))
 
-parse-requires : tie.Need-parse-requires
+parse-requires : tie.Need-parse-line-requires
 parse-requires c κs = search rules
 
-add-t5 : tie.Need-overflow-add-t5
-add-t5 c = let a = c.before.before.before.before.before.args in omega (arith, front-within 'newline false a.s.now a.at (omega arith))
+add-t5 : tie.Need-overflow_add-result
+add-t5 c = let a = c.args in omega (arith, front-within 'newline false a.s.now a.at (omega arith))
 
-returns-2 : tie.Need-returns-2
+returns-2 : tie.Need-returns
 unfolding line_at read_of
-returns-2 c = let a = c.before.before.before.before.before.args in
+returns-2 c = let a = c.args in
     let s = a.s.now in
     let n = front 'newline false (drop a.at s) in
-    let e = c.before.before.pass-over.ensures in
-    let m : c.before.before.pass-over.result - a.at ≡ n = omega arith in
-    rw (lt-ltb a.at (length s) (omega arith), c.parse.ensures ∙ ap (λ (k : ℕ). line_of (take k (drop a.at s))) m, e)
+    let e = c.pass_over-end.ensures in
+    let m : c.pass_over-end.result - a.at ≡ n = omega arith in
+    rw (lt-ltb a.at (length s) (omega arith), c.parse-line.ensures ∙ ap (λ (k : ℕ). line_of (take k (drop a.at s))) m, e)
 
-pub line-at_spec : {M : Type 1} → statement M
-line-at_spec =
+pub line_at_spec : {M : Type 1} → statement M
+line_at_spec =
     tie.close
     (tie.spec
     returns

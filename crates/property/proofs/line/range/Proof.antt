@@ -8,37 +8,27 @@ use Rattle.property.specs.Laws.{starts-room}
 use Rattle.property.proofs.line.range.Statement.{statement}
 use Rattle.property.proofs.line.range.Tie as tie
 
-slice-aggregate-stands : tie.Need-slice-aggregate-stands
-slice-aggregate-stands c = search rules
-
 stands-requires : tie.Need-stands-requires
 stands-requires c κs = search rules
 
-add-with-last : tie.Need-overflow-add-with-last
-add-with-last c = let a = c.before.before.before.before.args in omega (arith, starts-room _ a.s.now a.at (sym c.before.stands.ensures ∙ c.if1.true))
+add-with-last : tie.Need-overflow_add-at
+add-with-last c = let a = c.args in omega (arith, starts-room _ a.s.now a.at (sym c.stands.ensures ∙ c.if-stands.true))
 
-with-last-requires : tie.Need-with-last-requires
+with-last-requires : tie.Need-with_last-requires
 with-last-requires c κs = search rules
 
-returns : tie.Need-returns
+returns : tie.Need-returns-then-stands
 unfolding bytes range_of
-returns c = let a = c.before.before.before.before.before.args in rw (sym c.before.before.stands.ensures ∙ c.before.if1.true, drop-drop 2 a.at a.s.now) c.with-last.ensures
+returns c = let a = c.args in rw (sym c.stands.ensures ∙ c.if-stands.true, drop-drop 2 a.at a.s.now) c.with_last.ensures
 
 named-requires : tie.Need-named-requires
 named-requires c κs = search rules
 
-returns-2 : tie.Need-returns-2
+returns-2 : tie.Need-returns
 unfolding bytes range_of
-returns-2 c = rw (sym c.before.before.stands.ensures ∙ c.before.if1.false) c.named.ensures
+returns-2 c = rw (sym c.stands.ensures ∙ c.if-stands.false) c.named.ensures
 
 pub range_spec : {M : Type 1} → statement M
 range_spec =
     tie.close
-    (tie.spec
-    slice-aggregate-stands
-    stands-requires
-    add-with-last
-    with-last-requires
-    returns
-    named-requires
-    returns-2)
+    (tie.spec stands-requires add-with-last with-last-requires returns named-requires returns-2)

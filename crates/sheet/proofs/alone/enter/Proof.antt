@@ -8,27 +8,27 @@ use Rattle.sheet.proofs.alone.enter.Reads as reads
 use Rattle.sheet.proofs.alone.enter.Lts as lts
 
 -- src/alone.rt:51:14
-mul-row : tie.Need-overflow-mul-row
+mul-row : tie.Need-offset_bounds-row-i
 mul-row c = search rules
 
 -- src/alone.rt:51:14
-slice-read-row : tie.Need-slice-read-row
+slice-read-row : tie.Need-bounds-row-i
 slice-read-row c = search rules
 
 -- src/alone.rt:51:14
-add_row : tie.Need-overflow-add-row
+add_row : tie.Need-overflow_add-row
 add_row c = search rules
 
 -- src/alone.rt:51:5
-mul-row-2 : tie.Need-overflow-mul-row-2
+mul-row-2 : tie.Need-offset_bounds-row-i-2
 mul-row-2 c = search rules
 
 -- src/alone.rt:51:5
-slice-write-row : tie.Need-slice-write-row
+slice-write-row : tie.Need-bounds-row-i-2
 slice-write-row c = search rules
 
 -- src/alone.rt:47:1
-same_length : tie.Need-same-length
+same_length : tie.Need-shape_of-row
 same_length c = search rules
 
 -- src/alone.rt:47:1

@@ -3,10 +3,10 @@ use Rattle.utf8.specs.Picks.{picks}
 use Rattle.sheet.proofs.alone.greater.Statement.{statement}
 use Rattle.sheet.proofs.alone.greater.Tie as tie
 
-returns : tie.Need-returns
+returns : tie.Need-returns-then-a-b
 returns c = search picks
 
-returns-2 : tie.Need-returns-2
+returns-2 : tie.Need-returns
 returns-2 c = search picks
 
 pub greater_spec : {M : Type 1} → statement M

@@ -14,31 +14,31 @@ use Rattle.scan.proofs.is_next.Reads as is-next-reads
 use Rattle.sheet.proofs.alone.sharp.Reads as sharp-reads
 
 -- src/alone.rt:105:8
-is-next-requires : tie.Need-is-next-requires
+is-next-requires : tie.Need-is_next-requires
 is-next-requires c κs = search rules
 
 -- src/alone.rt:107:22
-kind-number-requires : tie.Need-kind-number-requires
+kind-number-requires : tie.Need-kind_number-requires
 kind-number-requires c κs = search rules
 
 -- src/alone.rt:107:9
 sharp-requires : tie.Need-sharp-requires
-sharp-requires c κs = let a = c.before.before.before.before.args in token-moves a.text.now a.p a.t a.to a.n c.before.before.before.before.requires
+sharp-requires c κs = let a = c.args in token-moves a.text.now a.p a.t a.to a.n c.requires
 
 -- src/alone.rt:107:9
-returns : tie.Need-returns
+returns : tie.Need-returns-then-is_next
 returns c =
-    let a = c.before.before.before.before.before.args in
-    let e = sym c.before.before.before.is-next.ensures ∙ c.before.before.if1.true in
-    c.sharp.ensures ∙ ap (λ (k : ℕ). sharp_part k a.t.end a.to a.n) c.before.kind-number.ensures
-    ∙ sym (ap (λ (b : Bool). part_by b (kind_number a.t.kind) a.t.end a.to a.n) e) ∙ sym (part-is a.text.now a.p a.t a.to a.n c.before.before.before.before.before.requires)
+    let a = c.args in
+    let e = sym c.is_next.ensures ∙ c.if-is_next.true in
+    c.sharp.ensures ∙ ap (λ (k : ℕ). sharp_part k a.t.end a.to a.n) c.kind_number.ensures
+    ∙ sym (ap (λ (b : Bool). part_by b (kind_number a.t.kind) a.t.end a.to a.n) e) ∙ sym (part-is a.text.now a.p a.t a.to a.n c.requires)
 
 -- src/alone.rt:101:1
-returns-2 : tie.Need-returns-2
+returns-2 : tie.Need-returns
 returns-2 c =
-    let a = c.before.before.before.args in
-    let e = sym c.before.is-next.ensures ∙ c.if1.false in
-    sym (ap (λ (b : Bool). part_by b (kind_number a.t.kind) a.t.end a.to a.n) e) ∙ sym (part-is a.text.now a.p a.t a.to a.n c.before.before.before.requires)
+    let a = c.args in
+    let e = sym c.is_next.ensures ∙ c.if-is_next.false in
+    sym (ap (λ (b : Bool). part_by b (kind_number a.t.kind) a.t.end a.to a.n) e) ∙ sym (part-is a.text.now a.p a.t a.to a.n c.requires)
 
 pub part_spec : {M : Type 1} → statement M
 part_spec =

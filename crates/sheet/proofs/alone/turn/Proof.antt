@@ -15,33 +15,33 @@ apart-requires : tie.Need-apart-requires
 apart-requires c κs = search rules
 
 -- src/alone.rt:202:19
-enum-known-r : tie.Need-enum-known-r
+enum-known-r : tie.Need-enum_known-r
 enum-known-r c = search rules
 
 -- src/alone.rt:202:28
 lost-requires : tie.Need-lost-requires
-lost-requires c κs = (c.before.before.before.before.before.before.requires.spent, open_small c.before.before.before.before.before.before.args.text.now c.before.before.before.before.before.before.args.at c.before.before.before.before.before.before.args.count c.before.before.before.before.before.before.args.row.now c.before.before.before.before.before.before.requires _ _ (sym c.before.before.before.apart.ensures ∙ c.before.r.given.1))
+lost-requires c κs = (c.requires.spent, open_small c.args.text.now c.args.at c.args.count c.args.row.now c.requires _ _ (sym c.apart.ensures ∙ c.in-Open.is))
 
 -- src/alone.rt:203:20
-enum-known-p : tie.Need-enum-known-p
+enum-known-p : tie.Need-enum_known-p
 enum-known-p c = search rules
 
 -- src/alone.rt:204:13
-after-gap-requires : tie.Need-after-gap-requires
-after-gap-requires c κs = (c.before.before.before.before.before.before.before.requires, gapped c.before.before.before.before.before.before.before.args.text.now c.before.before.before.before.before.before.before.args.at c.before.before.before.before.before.before.before.args.count _ _ _ _ (sym c.before.before.before.before.apart.ensures ∙ c.before.before.p.given.1))
+after-gap-requires : tie.Need-after_gap-requires
+after-gap-requires c κs = (c.requires, gapped c.args.text.now c.args.at c.args.count _ _ _ _ (sym c.apart.ensures ∙ c.in-Blank.is))
 
 -- src/alone.rt:197:1
-returns : tie.Need-returns
+returns : tie.Need-returns-in-Open
 returns c =
-    let z = open_read c.before.before.before.before.before.before.before.args.text.now c.before.before.before.before.before.before.before.args.at c.before.before.before.before.before.before.before.args.count c.before.before.before.before.before.before.before.args.row.now c.before.before.before.before.before.before.before.requires _ _ (sym c.before.before.before.before.apart.ensures ∙ c.before.before.r.given.1) in
+    let z = open_read c.args.text.now c.args.at c.args.count c.args.row.now c.requires _ _ (sym c.apart.ensures ∙ c.in-Open.is) in
     (c.lost.ensures ∙ z.0, z.1)
 
 -- src/alone.rt:197:1
-same_length : tie.Need-same-length
+same_length : tie.Need-shape_of-row
 same_length c = search rules
 
 -- src/alone.rt:197:1
-returns-2 : tie.Need-returns-2
+returns-2 : tie.Need-returns-in-Blank
 returns-2 c = search rules
 
 pub turn_spec : {M : Type 1} → statement M

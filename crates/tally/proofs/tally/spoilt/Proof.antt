@@ -3,11 +3,11 @@ use Rattle.tally.specs.Tallies.{spoilt_of}
 use Rattle.tally.proofs.tally.spoilt.Statement.{statement}
 use Rattle.tally.proofs.tally.spoilt.Tie as tie
 
-returns : tie.Need-returns
+returns : tie.Need-returns-then-t-ne0
 unfolding spoilt_of
 returns c = search picks
 
-returns-2 : tie.Need-returns-2
+returns-2 : tie.Need-returns
 unfolding spoilt_of
 returns-2 c = search picks
 

@@ -4,42 +4,42 @@ use Rattle.tally.specs.Tallies.{with_line}
 use Rattle.tally.proofs.tally.with_line.Statement.{statement}
 use Rattle.tally.proofs.tally.with_line.Tie as tie
 
-enum_told : tie.Need-enum-told
+enum_told : tie.Need-enum_told-1
 enum_told c = search rules
 
-enum-told-2 : tie.Need-enum-told-2
+enum-told-2 : tie.Need-enum_told-in-Damaged
 enum-told-2 c = search rules
 
 spoilt-requires : tie.Need-spoilt-requires
 spoilt-requires c κs = search rules
 
-enum-known-l : tie.Need-enum-known-l
+enum-known-l : tie.Need-enum_known-l
 enum-known-l c = search rules
 
-number-of-requires : tie.Need-number-of-requires
+number-of-requires : tie.Need-number_of-requires
 number-of-requires c κs = search rules
 
-number-of-requires-2 : tie.Need-number-of-requires-2
+number-of-requires-2 : tie.Need-number_of-requires-in-Range
 number-of-requires-2 c κs = search rules
 
-returns : tie.Need-returns
+returns : tie.Need-returns-then-number_of
 unfolding with_line
-returns c = rw (c.before.before.before.before.l.given.1, ← c.before.before.number_of_lem.ensures, ← c.before.number-of2.ensures, ne_eqb _ _ c.if1.true)
+returns c = rw (c.in-Range.is, ← c.number_of.ensures, ← c.number_of-in-Range.ensures, ne_eqb _ _ c.if-number_of.true)
 
-with-range-requires : tie.Need-with-range-requires
+with-range-requires : tie.Need-with_range-requires
 with-range-requires c κs = search rules
 
-returns-2 : tie.Need-returns-2
+returns-2 : tie.Need-returns-in-Nothing
 unfolding with_line
-returns-2 c = rw c.enum_told.given.1
+returns-2 c = rw c.in-Nothing.is
 
-returns-3 : tie.Need-returns-3
+returns-3 : tie.Need-returns-in-Damaged
 unfolding with_line
-returns-3 c = rw c.before.enum-told2.given.1 c.spoilt.ensures
+returns-3 c = rw c.in-Damaged.is c.spoilt.ensures
 
-returns-4 : tie.Need-returns-4
+returns-4 : tie.Need-returns-else-number_of
 unfolding with_line
-returns-4 c = rw (c.before.before.before.before.before.l.given.1, ← c.before.before.before.number_of_lem.ensures, ← c.before.before.number-of2.ensures, eq-eqb _ _ c.before.if1.false) c.with-range.ensures
+returns-4 c = rw (c.in-Range.is, ← c.number_of.ensures, ← c.number_of-in-Range.ensures, eq-eqb _ _ c.if-number_of.false) c.with_range.ensures
 
 pub with_line_spec : {M : Type 1} → statement M
 with_line_spec =

@@ -7,41 +7,41 @@ use Rattle.reading.specs.Attribute.{attribute_turn}
 use Rattle.tok.proofs.attribute.attribute_turn.Statement.{statement}
 use Rattle.tok.proofs.attribute.attribute_turn.Tie as tie
 
-add-t7 : tie.Need-overflow-add-t7
+add-t7 : tie.Need-overflow_add-result
 add-t7 c = search rules
 
-returns : tie.Need-returns
+returns : tie.Need-returns-then-c-eq-LEFT_BRACKET
 unfolding attribute_turn
 returns c = search picks
 
-returns-2 : tie.Need-returns-2
+returns-2 : tie.Need-returns-then-b-lt2
 unfolding attribute_turn
 returns-2 c = search picks
 
-sub-t9 : tie.Need-overflow-sub-t9
+sub-t9 : tie.Need-overflow_sub-result
 sub-t9 c = search rules
 
-returns-3 : tie.Need-returns-3
+returns-3 : tie.Need-returns-then-c-eq-RIGHT_BRACKET
 unfolding attribute_turn
 returns-3 c = search picks
 
-string-skip-requires : tie.Need-string-skip-requires
+string-skip-requires : tie.Need-string_skip-requires
 string-skip-requires c κs = search rules
 
-to-turn-requires : tie.Need-to-turn-requires
+to-turn-requires : tie.Need-to_turn-requires
 to-turn-requires c κs = search rules
 
-returns-4 : tie.Need-returns-4
+returns-4 : tie.Need-returns-then-c-eq-DOUBLE_QUOTE
 unfolding attribute_turn
-returns-4 c = let h = c.to-turn.ensures ∙ ap (turn_of _) c.before.string-skip.ensures in search picks
+returns-4 c = let h = c.to_turn.ensures ∙ ap (turn_of _) c.string_skip.ensures in search picks
 
-returns-5 : tie.Need-returns-5
+returns-5 : tie.Need-returns-then-c-eq-NEWLINE
 unfolding attribute_turn
 returns-5 c = search picks
 
-returns-6 : tie.Need-returns-6
+returns-6 : tie.Need-returns
 unfolding attribute_turn
 returns-6 c = search picks
 
-pub attribute-turn_spec : {M : Type 1} → statement M
-attribute-turn_spec = tie.close (tie.spec add-t7 returns returns-2 sub-t9 returns-3 string-skip-requires to-turn-requires returns-4 returns-5 returns-6)
+pub attribute_turn_spec : {M : Type 1} → statement M
+attribute_turn_spec = tie.close (tie.spec add-t7 returns returns-2 sub-t9 returns-3 string-skip-requires to-turn-requires returns-4 returns-5 returns-6)

@@ -6,23 +6,23 @@ use Rattle.reading.specs.Attribute.{advances_of, attempt_more}
 use Rattle.tok.proofs.attribute.one_more.Statement.{statement}
 use Rattle.tok.proofs.attribute.one_more.Tie as tie
 
-enum-known-x : tie.Need-enum-known-x
+enum-known-x : tie.Need-enum_known-x
 enum-known-x c = search rules
 
-add-t7 : tie.Need-overflow-add-t7
-add-t7 c = omega (arith, c.before.before.before.requires, ap advances_of c.before.x.given.1)
+add-t7 : tie.Need-overflow_add-result
+add-t7 c = omega (arith, c.requires, ap advances_of c.in-Closed.is)
 
-enum-known-x-2 : tie.Need-enum-known-x-2
+enum-known-x-2 : tie.Need-enum_known-x-in-Failed-1
 enum-known-x-2 c = search rules
 
-add-t8 : tie.Need-overflow-add-t8
-add-t8 c = omega (arith, c.before.before.before.requires, ap advances_of c.before.x2.given.1)
+add-t8 : tie.Need-overflow_add-result-in-Failed
+add-t8 c = omega (arith, c.requires, ap advances_of c.in-Failed.is)
 
-returns : tie.Need-returns
-returns c = ap (attempt_more 1) (sym c.before.x.given.1)
+returns : tie.Need-returns-in-Closed
+returns c = ap (attempt_more 1) (sym c.in-Closed.is)
 
-returns-2 : tie.Need-returns-2
-returns-2 c = ap (attempt_more 1) (sym c.before.x2.given.1)
+returns-2 : tie.Need-returns-in-Failed
+returns-2 c = ap (attempt_more 1) (sym c.in-Failed.is)
 
-pub one-more_spec : {M : Type 1} → statement M
-one-more_spec = tie.close (tie.spec enum-known-x add-t7 enum-known-x-2 add-t8 returns returns-2)
+pub one_more_spec : {M : Type 1} → statement M
+one_more_spec = tie.close (tie.spec enum-known-x add-t7 enum-known-x-2 add-t8 returns returns-2)

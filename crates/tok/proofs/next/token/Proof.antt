@@ -1,7 +1,6 @@
 -- `tok::next::token` meets its contract.
 use Prim.Native.Nat.{ℕ}
 use mathlib.Core.List.{List}
-use mathlib.Core.Logic.{⊎_elim}
 use mathlib.Core.Path.{◌≡◌, refl, sym, ap, ◌∙◌}
 use native.Mathlib.Omega.{arith}
 use borrow.Author.Rules.{rules}
@@ -10,26 +9,28 @@ use Rattle.record.specs.declared.Reading.{Reading}
 use Rattle.scan.specs.Until.{left}
 use Rattle.reading.specs.Answers.{more, plain}
 use Rattle.reading.specs.Next.{token}
-use Rattle.reading.specs.Steps.{hash-fits, token-starts}
+use Rattle.reading.proofs.Steps.{hash-fits}
+use Rattle.reading.specs.Steps.{token-starts}
 use Rattle.reading.specs.Symbols.{single, singles}
 use Rattle.tok.proofs.next.token.Statement.{statement}
 use Rattle.tok.proofs.next.token.Tie as tie
+use Rattle.tok.proofs.next.token.Lts.{in-38, in-44, in-62, in-123, in-91, in-40, in-60, in-43, in-63, in-125, in-93, in-41, in-59, in-42}
 
 hash-requires : tie.Need-hash-requires
 hash-requires c κs = search rules
 
 more-requires : tie.Need-more-requires
-more-requires c κs = omega (arith, hash-fits _ c.before.before.before.args.s.now c.before.before.before.args.next c.before.before.before.args.o c.hash.ensures)
+more-requires c κs = omega (arith, hash-fits _ c.args.s.now c.args.next c.args.o c.hash.ensures)
 
-returns : tie.Need-returns
+returns : tie.Need-returns-in-35
 unfolding token
-returns c = rw c.before.before.match.keys1 (c.more.ensures ∙ ap (more 1) c.before.hash.ensures)
+returns c = rw c.in-35.is (c.more.ensures ∙ ap (more 1) c.hash.ensures)
 
 starts-requires : tie.Need-starts-requires
 starts-requires c κs = search rules
 
-returns-2 : tie.Need-returns-2
-returns-2 c = let r = c.before.match.rest in c.starts.ensures ∙ sym (token-starts _ c.before.before.before.args.c (left c.before.before.before.args.s.now c.before.before.before.args.next) c.before.before.before.args.o c.before.before.before.args.next r.0.0.0.0.0.0.0.0.0.0.0.0.0.0.1 r.0.0.0.0.0.0.0.0.0.0.0.0.0.1 r.0.0.0.0.0.0.0.0.0.0.0.0.1 r.0.0.0.0.0.0.0.0.0.0.0.1 r.0.0.0.0.0.0.0.0.0.0.1 r.0.0.0.0.0.0.0.0.0.1 r.0.0.0.0.0.0.0.0.1 r.0.0.0.0.0.0.0.1 r.0.0.0.0.0.0.1 r.0.0.0.0.0.1 r.0.0.0.0.1 r.0.0.0.1 r.0.0.1 r.0.1 r.1)
+returns-2 : tie.Need-returns-in_default
+returns-2 c = let r = c.in_default.in_default-own.rest in c.starts.ensures ∙ sym (token-starts _ c.args.c (left c.args.s.now c.args.next) c.args.o c.args.next r.0.0.0.0.0.0.0.0.0.0.0.0.0.0.1 r.0.0.0.0.0.0.0.0.0.0.0.0.0.1 r.0.0.0.0.0.0.0.0.0.0.0.0.1 r.0.0.0.0.0.0.0.0.0.0.0.1 r.0.0.0.0.0.0.0.0.0.0.1 r.0.0.0.0.0.0.0.0.0.1 r.0.0.0.0.0.0.0.0.1 r.0.0.0.0.0.0.0.1 r.0.0.0.0.0.0.1 r.0.0.0.0.0.1 r.0.0.0.0.1 r.0.0.0.1 r.0.0.1 r.0.1 r.1)
 
 plain-requires : tie.Need-plain-requires
 plain-requires c κs = search rules
@@ -39,40 +40,28 @@ meant : (rd : Reading) (k c : ℕ) (cs : List ℕ) (o next : ℕ) (x d : Kind) �
 meant rd k c cs o next x d e q f = ap (λ (j : Kind). plain j o next 1) q ∙ sym f ∙ ap (λ (j : ℕ). token rd j cs o next) (sym e)
 
 -- where the arms meet: the kind is the character's
-meets : (c : tie.At-match-branch) → plain c.match.kind c.before.before.args.o c.before.before.args.next 1
-    ≡ token c.before.before.args.rd c.before.before.args.c (left c.before.before.args.s.now c.before.before.args.next) c.before.before.args.o c.before.before.args.next
+meets : (c : tie.Joined-c) → plain c.match-c.kind c.args.o c.args.next 1
+    ≡ token c.args.rd c.args.c (left c.args.s.now c.args.next) c.args.o c.args.next
 unfolding token single singles
 meets c =
-    ⊎_elim
-    (λ w. meant _ 38 _ _ _ _ _ _ w.0.keys2 w.1 refl)
-    (⊎_elim
-    (λ w. meant _ 44 _ _ _ _ _ _ w.0.keys3 w.1 refl)
-    (⊎_elim
-    (λ w. meant _ 62 _ _ _ _ _ _ w.0.keys4 w.1 refl)
-    (⊎_elim
-    (λ w. meant _ 123 _ _ _ _ _ _ w.0.keys5 w.1 refl)
-    (⊎_elim
-    (λ w. meant _ 91 _ _ _ _ _ _ w.0.keys6 w.1 refl)
-    (⊎_elim
-    (λ w. meant _ 40 _ _ _ _ _ _ w.0.keys7 w.1 refl)
-    (⊎_elim
-    (λ w. meant _ 60 _ _ _ _ _ _ w.0.keys8 w.1 refl)
-    (⊎_elim
-    (λ w. meant _ 43 _ _ _ _ _ _ w.0.keys9 w.1 refl)
-    (⊎_elim
-    (λ w. meant _ 63 _ _ _ _ _ _ w.0.keys10 w.1 refl)
-    (⊎_elim
-    (λ w. meant _ 125 _ _ _ _ _ _ w.0.keys11 w.1 refl)
-    (⊎_elim
-    (λ w. meant _ 93 _ _ _ _ _ _ w.0.keys12 w.1 refl)
-    (⊎_elim
-    (λ w. meant _ 41 _ _ _ _ _ _ w.0.keys13 w.1 refl)
-    (⊎_elim
-    (λ w. meant _ 59 _ _ _ _ _ _ w.0.keys14 w.1 refl)
-    (λ w. meant _ 42 _ _ _ _ _ _ w.0.keys15 w.1 refl)))))))))))))
-    c.match.branch
+    elim c.match-c.branch [
+      | in-38 w ↦ meant _ 38 _ _ _ _ _ _ w.in-38.is w.kind-is refl
+      | in-44 w ↦ meant _ 44 _ _ _ _ _ _ w.in-44.is w.kind-is refl
+      | in-62 w ↦ meant _ 62 _ _ _ _ _ _ w.in-62.is w.kind-is refl
+      | in-123 w ↦ meant _ 123 _ _ _ _ _ _ w.in-123.is w.kind-is refl
+      | in-91 w ↦ meant _ 91 _ _ _ _ _ _ w.in-91.is w.kind-is refl
+      | in-40 w ↦ meant _ 40 _ _ _ _ _ _ w.in-40.is w.kind-is refl
+      | in-60 w ↦ meant _ 60 _ _ _ _ _ _ w.in-60.is w.kind-is refl
+      | in-43 w ↦ meant _ 43 _ _ _ _ _ _ w.in-43.is w.kind-is refl
+      | in-63 w ↦ meant _ 63 _ _ _ _ _ _ w.in-63.is w.kind-is refl
+      | in-125 w ↦ meant _ 125 _ _ _ _ _ _ w.in-125.is w.kind-is refl
+      | in-93 w ↦ meant _ 93 _ _ _ _ _ _ w.in-93.is w.kind-is refl
+      | in-41 w ↦ meant _ 41 _ _ _ _ _ _ w.in-41.is w.kind-is refl
+      | in-59 w ↦ meant _ 59 _ _ _ _ _ _ w.in-59.is w.kind-is refl
+      | in-42 w ↦ meant _ 42 _ _ _ _ _ _ w.in-42.is w.kind-is refl
+    ]
 
-returns-3 : tie.Need-returns-3
+returns-3 : tie.Need-returns
 returns-3 c = c.plain.ensures ∙ meets c.before
 
 pub token_spec : {M : Type 1} → statement M

@@ -8,12 +8,12 @@ use Rattle.tok.proofs.symbols.arrow_code.Tie as tie
 code-requires : tie.Need-code-requires
 code-requires c κs = search rules
 
-code-token-requires : tie.Need-code-token-requires
+code-token-requires : tie.Need-code_token-requires
 code-token-requires c κs = search rules
 
 returns : tie.Need-returns
 unfolding arrow_code
-returns c = c.code-token.ensures ∙ rw (c.before.code.ensures.0, c.before.code.ensures.1)
+returns c = c.code_token.ensures ∙ rw (c.code.ensures.0, c.code.ensures.1)
 
 pub arrow_code_spec : {M : Type 1} → statement M
 arrow_code_spec = tie.close (tie.spec code-requires code-token-requires returns)

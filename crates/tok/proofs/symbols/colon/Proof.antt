@@ -14,7 +14,7 @@ mark-requires c κs = search rules
 
 returns : tie.Need-returns
 unfolding colon
-returns c = c.mark.ensures ∙ ap (if_next _ _ _) c.before.plain.ensures
+returns c = c.mark.ensures ∙ ap (if_next _ _ _) c.plain.ensures
 
 pub colon_spec : {M : Type 1} → statement M
 colon_spec = tie.close (tie.spec plain-requires mark-requires returns)

@@ -14,7 +14,7 @@ mark-requires c κs = search rules
 
 returns : tie.Need-returns
 unfolding tilde
-returns c = c.mark.ensures ∙ ap (if_next _ _ _) c.before.half.ensures
+returns c = c.mark.ensures ∙ ap (if_next _ _ _) c.half.ensures
 
 pub tilde_spec : {M : Type 1} → statement M
 tilde_spec = tie.close (tie.spec half-requires mark-requires returns)

@@ -1,5 +1,4 @@
--- Written by tools/unicode_tables: `unicode::tables::continue_3` meets its contract, by the law of a piece.
-use borrow.Author.Rules.{rules}
+-- Written by tools/unicode_tables: `unicode_xid::tables::continue_3` meets its contract, by the law of a piece.
 use mathlib.Core.Path.{refl, ◌∙◌}
 use native.Mathlib.Omega.{arith}
 use Rattle.unicode_xid.specs.Tables.{continue_ranges}
@@ -15,7 +14,7 @@ lookup-requires c κs = (refl, piece_order continue_ranges 291 97 continue_order
 
 returns : tie.Need-returns
 unfolding zip cut_from continue_ranges
-returns c = let x = c.before.before.before.args.c in c.lookup.ensures ∙ piece_between continue_ranges 291 97 x continue_ordered 0x1FB6 refl (omega arith) 0xAB11 refl (omega arith)
+returns c = let x = c.args.c in c.lookup.ensures ∙ piece_between continue_ranges 291 97 x continue_ordered 0x1FB6 refl (omega arith) 0xAB11 refl (omega arith)
 
 pub continue_3_spec : {M : Type 1} → statement M
-continue_3_spec = tie.close (tie.spec (λ c. search rules) (λ c. search rules) lookup-requires returns)
+continue_3_spec = tie.close (tie.spec lookup-requires returns)

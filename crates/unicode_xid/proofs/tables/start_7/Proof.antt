@@ -1,5 +1,4 @@
--- Written by tools/unicode_tables: `unicode::tables::start_7` meets its contract, by the law of a piece.
-use borrow.Author.Rules.{rules}
+-- Written by tools/unicode_tables: `unicode_xid::tables::start_7` meets its contract, by the law of a piece.
 use mathlib.Core.Path.{refl, ◌∙◌}
 use native.Mathlib.Omega.{arith}
 use Rattle.unicode_xid.specs.Tables.{start_ranges}
@@ -15,7 +14,7 @@ lookup-requires c κs = (refl, piece_order start_ranges 588 79 start-ordered)
 
 returns : tie.Need-returns
 unfolding zip cut_from start_ranges
-returns c = let x = c.before.before.before.args.c in c.lookup.ensures ∙ piece_last start_ranges 588 79 x start-ordered 0x1D4BD refl (omega arith) refl
+returns c = let x = c.args.c in c.lookup.ensures ∙ piece_last start_ranges 588 79 x start-ordered 0x1D4BD refl (omega arith) refl
 
 pub start_7_spec : {M : Type 1} → statement M
-start_7_spec = tie.close (tie.spec (λ c. search rules) (λ c. search rules) lookup-requires returns)
+start_7_spec = tie.close (tie.spec lookup-requires returns)

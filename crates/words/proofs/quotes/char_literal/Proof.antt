@@ -10,16 +10,16 @@ use Rattle.reading.specs.Quotes.{char_literal, string_or_char_literal}
 use Rattle.words.proofs.quotes.char_literal.Statement.{statement}
 use Rattle.words.proofs.quotes.char_literal.Tie as tie
 
-string-end-requires : tie.Need-string-end-requires
+string-end-requires : tie.Need-string_end-requires
 string-end-requires c κs = search rules
 
-string-or-char-literal-requires : tie.Need-string-or-char-literal-requires
+string-or-char-literal-requires : tie.Need-string_or_char_literal-requires
 unfolding width_of
-string-or-char-literal-requires c κs = λ p m e. let h = closed-within c.before.before.args.s.now c.before.before.args.at p m (string_past _ _ p m 'quote refl (sym c.string_end_lem.ensures ∙ e)) in (omega arith, omega arith)
+string-or-char-literal-requires c κs = λ p m e. let h = closed-within c.args.s.now c.args.at p m (string_past _ _ p m 'quote refl (sym c.string_end.ensures ∙ e)) in (omega arith, omega arith)
 
 returns : tie.Need-returns
 unfolding char_literal
-returns c = c.string-or-char-literal.ensures ∙ ap (string_or_char_literal _ _ _ _) c.before.string_end_lem.ensures
+returns c = c.string_or_char_literal.ensures ∙ ap (string_or_char_literal _ _ _ _) c.string_end.ensures
 
 pub char_literal_spec : {M : Type 1} → statement M
 char_literal_spec = tie.close (tie.spec string-end-requires string-or-char-literal-requires returns)

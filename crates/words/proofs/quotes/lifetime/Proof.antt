@@ -19,56 +19,56 @@ use Rattle.words.proofs.quotes.lifetime.Statement.{statement}
 use Rattle.words.proofs.quotes.lifetime.Tie as tie
 
 -- the text, and where the word is found
-abbrev S : tie.After-known-told → List ℕ
-S c = c.before.before.before.before.before.args.s.now
+abbrev S : tie.In-At → List ℕ
+S c = c.args.s.now
 
-abbrev O : tie.After-known-told → ℕ
-O c = c.before.before.before.before.before.args.at
+abbrev O : tie.In-At → ℕ
+O c = c.args.at
 
-abbrev P : tie.After-known-told → ℕ
-P c = c.before.place.given.0.0
+abbrev P : tie.In-At → ℕ
+P c = c.in-At.place
 
-abbrev M : tie.After-known-told → ℕ
-M c = c.before.place.given.0.1.0
+abbrev M : tie.In-At → ℕ
+M c = c.in-At.passed
 
-found : (c : tie.After-known-told) → seek Word (chars (drop (O c) (S c))) (O c) ≡ At (P c) (M c)
-found c = sym c.before.before.before.word.ensures ∙ c.before.place.given.1
+found : (c : tie.In-At) → seek Word (chars (drop (O c) (S c))) (O c) ≡ At (P c) (M c)
+found c = sym c.word.ensures ∙ c.in-At.is
 
 word-requires : tie.Need-word-requires
 word-requires c κs = search rules
 
-enum-known-place : tie.Need-enum-known-place
+enum-known-place : tie.Need-enum_known-place
 enum-known-place c = search rules
 
-is-next-requires : tie.Need-is-next-requires
+is-next-requires : tie.Need-is_next-requires
 is-next-requires c κs = search rules
 
-add-deliver : tie.Need-overflow-add-deliver
-add-deliver c = omega (arith, next-room (S c.before.before) (P c.before.before) 'quote (sym c.before.is-next.ensures ∙ c.if1.true))
+add-deliver : tie.Need-overflow_add-place
+add-deliver c = omega (arith, next-room (S c.before.before) (P c.before.before) 'quote (sym c.is_next.ensures ∙ c.if-is_next.true))
 
-add-deliver-2 : tie.Need-overflow-add-deliver-2
-add-deliver-2 c = let l = lands (M c.before.before) (S c.before.before) (O c.before.before) (P c.before.before) (seek-at _ _ _ _ Word (found c.before.before)) in omega (arith, l.gone, next-room (S c.before.before) (P c.before.before) 'quote (sym c.before.is-next.ensures ∙ c.if1.true))
+add-deliver-2 : tie.Need-overflow_add-passed
+add-deliver-2 c = let l = lands (M c.before.before) (S c.before.before) (O c.before.before) (P c.before.before) (seek-at _ _ _ _ Word (found c.before.before)) in omega (arith, l.gone, next-room (S c.before.before) (P c.before.before) 'quote (sym c.is_next.ensures ∙ c.if-is_next.true))
 
 deliver-requires : tie.Need-deliver-requires
 deliver-requires c κs = search rules
 
-returns : tie.Need-returns
+returns : tie.Need-returns-then-is_next
 returns c = rw (lifetime_at (S c.before.before.before) (O c.before.before.before) (P c.before.before.before) (M c.before.before.before) _ (found c.before.before.before)) (search nexts)
 
-deliver-requires-2 : tie.Need-deliver-requires-2
+deliver-requires-2 : tie.Need-deliver-requires-in-At
 deliver-requires-2 c κs = search rules
 
-enum-known-p : tie.Need-enum-known-p
+enum-known-p : tie.Need-enum_known-p
 enum-known-p c = search rules
 
-deliver-requires-3 : tie.Need-deliver-requires-3
+deliver-requires-3 : tie.Need-deliver-requires-in-Nothing
 deliver-requires-3 c κs = search rules
 
-returns-2 : tie.Need-returns-2
+returns-2 : tie.Need-returns-else-is_next
 returns-2 c = rw (lifetime_at (S c.before.before.before) (O c.before.before.before) (P c.before.before.before) (M c.before.before.before) _ (found c.before.before.before)) (search nexts)
 
-returns-3 : tie.Need-returns-3
-returns-3 c = c.deliver3.ensures ∙ ap (lifetime_by c.before.before.before.before.before.before.args.o (chars (drop c.before.before.before.before.before.before.args.at c.before.before.before.before.before.before.args.s.now)) c.before.before.before.before.before.before.args.at) (sym c.before.before.p.given.1 ∙ c.before.before.before.before.word.ensures)
+returns-3 : tie.Need-returns-in-Nothing
+returns-3 c = c.deliver-in-Nothing.ensures ∙ ap (lifetime_by c.args.o (chars (drop c.args.at c.args.s.now)) c.args.at) (sym c.in-Nothing.is ∙ c.word.ensures)
 
 pub lifetime_spec : {M : Type 1} → statement M
 lifetime_spec = tie.close (tie.spec word-requires enum-known-place is-next-requires add-deliver add-deliver-2 deliver-requires returns deliver-requires-2 enum-known-p deliver-requires-3 returns-2 returns-3)

@@ -1,0 +1,2 @@
+-- which characters a literal spans
+pub mod Strings
