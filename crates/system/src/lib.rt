@@ -1,8 +1,8 @@
 // What the programs ask of the system: their arguments, files by name, all bytes up to an end, and the words for a fault.
 #![tactic(auto)]
 
-ghost use Rattle.std.specs.Prelude.{◌≡◌, ◌≢◌, ◌<◌, ◌≤◌, length, take, IfOk, IfErr, OnErr, OnOk};
-ghost use Rattle.std.specs.Io.{ReadsAtMost};
+ghost use Rattle.std.specs.Prelude.{ℕ, false, ◌≡◌, ◌≢◌, ◌<◌, ◌≤◌, length, take, All, IfOk, IfErr, OnErr, OnOk};
+ghost use Rattle.std.specs.Io.{ReadsAtMost, StartsWith};
 ghost use Rattle.std.specs.Io.KnownBytes.{Appends, Consumes, IsAtEnd, Keeps};
 ghost use Rattle.std.specs.IoError.{error_kind};
 
@@ -35,11 +35,12 @@ pub fn read_once<R: Read>(from: &mut R, buf: &mut [u8]) -> Result<usize>
 }
 
 // Reads until the buffer is full or the end is there, and answers how many bytes came. Fewer than the buffer has came to the end; a read that fails is
-// never taken for it.
+// never taken for it, and what was read before stands at the buffer's start.
 pub fn read_all<R: Read>(from: &mut R, buf: &mut [u8]) -> Result<usize>
     ensures bound { ReadsAtMost result buf.new }
     ensures bytes { IfOk result (λ n. Consumes (R.remaining from.old) (R.remaining from.new) (take n buf.new)) }
     ensures end { IfOk result (λ n. n < length buf.old → IsAtEnd (R.remaining from.new)) }
+    ensures err { OnErr result ((n : ℕ) × (n ≤ length buf.new) × Consumes (R.remaining from.old) (R.remaining from.new) (take n buf.new)) }
 {
     let mut n: usize = 0;
     while n < buf.len() {
@@ -52,9 +53,10 @@ pub fn read_all<R: Read>(from: &mut R, buf: &mut [u8]) -> Result<usize>
     Ok(n)
 }
 
-// Writes all bytes, or stops at the first write that fails or takes nothing: an interrupted one is not tried again.
+// Writes all bytes, or stops at the first write that fails or takes nothing, with the first of them written: an interrupted one is not tried again.
 pub fn write_whole<W: Write>(to: &mut W, bytes: &[u8]) -> Result<()>
-    ensures { OnOk result (Appends (W.contents to.old) (W.contents to.new) bytes.now) }
+    ensures ok { OnOk result (Appends (W.contents to.old) (W.contents to.new) bytes.now) }
+    ensures err { OnErr result ((n : ℕ) × (n ≤ length bytes.now) × Appends (W.contents to.old) (W.contents to.new) (take n bytes.now)) }
 {
     let mut rest = bytes;
     while !rest.is_empty() {
@@ -83,7 +85,10 @@ pub fn fail(to: &impl Print, what: &[u8], fault: Error) {
 }
 
 // A fault's words, where a number in parentheses may stand after them.
-fn words(text: &[u8], is_numbered: bool) -> &[u8] {
+fn words(text: &[u8], is_numbered: bool) -> &[u8]
+    ensures front { StartsWith text.now result.now }
+    ensures unnumbered { is_numbered ≡ false → result.now ≡ text.now }
+{
     if is_numbered {
         if let Some(at) = text.iter().rposition(|b| *b == b'(') {
             return &text[..at.saturating_sub(1)];
@@ -94,7 +99,8 @@ fn words(text: &[u8], is_numbered: bool) -> &[u8] {
 
 // Room for a name: no path is longer.
 pub fn name_room() -> [u8; 4096]
-    ensures { 4096 ≡ length result }
+    ensures size { 4096 ≡ length result }
+    ensures zeros { All (λ b. b ≡ 0) result }
 {
     [0; 4096]
 }
