@@ -1,14 +1,13 @@
 -- The laws of the calls: after n of them nothing differed.
 use Prim.Native.Nat.{◌+◌, ◌-◌, ◌/◌, ◌<◌, ◌≤◌, suc, ℕ}
 use native.Mathlib.Omega.{arith}
-use Rattle.std.specs.Prelude.{Bool, cond, false, true, List, ◌≡◌, refl, length}
+use Rattle.std.specs.Prelude.{Bool, cond, false, true, List, ◌≡◌, refl, length, Ok, Err, Result}
 use Rattle.std.proofs.Common.{◌∙◌, ap}
 use Rattle.std.proofs.Math.Path.{sym}
 use Rattle.std.proofs.lemmas.List.{length-replicate}
 use Rattle.record.specs.Numbers.{code_number}
 use Rattle.record.specs.Records.{refusal}
 use Rattle.record.specs.Rust.{rust_number}
-use Rattle.record.specs.declared.Checked.TheVariants.{Passed, Refused as Stopped}
 use Rattle.record.specs.declared.Code.TheVariants.{BadRecord}
 use Rattle.record.specs.declared.Refusal.{Refusal}
 use Rattle.record.specs.declared.Token.{Token}
@@ -34,20 +33,20 @@ pub room-tokens : (l : List ℕ) → l ≡ blank → length l / group_size ≡ m
 room-tokens l e = let n : length l ≡ room_for = ap length e ∙ blank-length in rw n
 
 -- what the payload's check tells
-passes : (b : Bool) (r : Refusal) → cond b Passed (Stopped r) ≡ Passed → b ≡ true
+passes : (b : Bool) (r : Refusal) → cond {A = Result Unit Refusal} b (Ok tt) (Err r) ≡ Ok tt → b ≡ true
 passes true r e = refl
 passes false r e = cc
 
-stops : (b : Bool) (r q : Refusal) → cond b Passed (Stopped r) ≡ Stopped q → b ≡ false
+stops : (b : Bool) (r q : Refusal) → cond {A = Result Unit Refusal} b (Ok tt) (Err r) ≡ Err q → b ≡ false
 stops true r q e = cc
 stops false r q e = refl
 
 module _ (s : List ℕ) (shift : ℕ) (t : Token) where
-  pub passed : payload_check s shift t ≡ Passed → is_payload s shift t.payload_start t.payload_end ≡ true
+  pub passed : payload_check s shift t ≡ (Ok tt) → is_payload s shift t.payload_start t.payload_end ≡ true
   unfolding payload_check
   passed e = passes (is_payload s shift t.payload_start t.payload_end) (refusal BadRecord 0) e
 
-  pub not_passed : (r : Refusal) → payload_check s shift t ≡ Stopped r → is_payload s shift t.payload_start t.payload_end ≡ false
+  pub not_passed : (r : Refusal) → payload_check s shift t ≡ Err r → is_payload s shift t.payload_start t.payload_end ≡ false
   unfolding payload_check
   not_passed r e = stops (is_payload s shift t.payload_start t.payload_end) (refusal BadRecord 0) r e
 

@@ -1,17 +1,14 @@
 -- A text, expanded into a painted buffer.
-use Rattle.std.specs.Prelude.{◌+◌, ℕ, cond, List, [], ◌∷◌, eqb, ltb, drop, get_or, replicate, take}
+use Rattle.std.specs.Prelude.{◌+◌, ℕ, cond, List, [], ◌∷◌, eqb, ltb, drop, get_or, replicate, take, Result, Ok, Err}
 use Rattle.record.specs.Numbers.{code_number}
-use Rattle.record.specs.declared.Checked.{Checked}
-use Rattle.record.specs.declared.Checked.TheVariants.{Passed, Refused as Stopped}
 use Rattle.escapes.specs.Answers.{Done, applied, part_check, part_of}
-use Rattle.escapes.specs.declared.Expanded.{Expanded}
-use Rattle.escapes.specs.declared.Expanded.TheVariants.{Part as APart, Refused}
 use Rattle.escapes.specs.declared.Held.{Held}
 use Rattle.escapes.specs.declared.Held.TheVariants.{Buffer, Text}
 use Rattle.escapes.specs.declared.Part.{Part}
 use Rattle.recorded.specs.declared.Difference.{Difference}
 use Rattle.recorded.specs.declared.Difference.TheVariants.{Length}
 use Rattle.asked.specs.Answers.{answer_differs}
+use Rattle.record.specs.declared.Refusal.{Refusal}
 
 -- the most bytes of a buffer
 abbrev pub most_room : ℕ
@@ -31,14 +28,14 @@ abbrev pub side_number : Held → ℕ
 side_number Text = 1
 side_number Buffer = 2
 
-abbrev pub stands_by : Checked → Part → ℕ
-stands_by Passed p = side_number p.held
-stands_by (Stopped r) p = 3
+abbrev pub stands_by : Result Unit Refusal → Part → ℕ
+stands_by (Ok tt) p = side_number p.held
+stands_by (Err r) p = 3
 
 -- code, place of the refusal, where the expansion stands, start, end, bytes written; then the bytes of the expansion
-unfoldable pub expanded_by : List ℕ → List ℕ → List ℕ → Expanded → Difference
-expanded_by s recorded d (Refused r) = answer_differs 6 recorded (code_number r.code ∷ r.place ∷ 0 ∷ 0 ∷ 0 ∷ written d ∷ []) []
-expanded_by s recorded d (APart p) =
+unfoldable pub expanded_by : List ℕ → List ℕ → List ℕ → Result Part Refusal → Difference
+expanded_by s recorded d (Err r) = answer_differs 6 recorded (code_number r.code ∷ r.place ∷ 0 ∷ 0 ∷ 0 ∷ written d ∷ []) []
+expanded_by s recorded d (Ok p) =
     answer_differs 6 recorded (0 ∷ 0 ∷ stands_by (part_check s d p) p ∷ p.start ∷ p.end ∷ written d ∷ []) (part_of s d p)
 
 -- the text is expanded into a buffer d from a place on

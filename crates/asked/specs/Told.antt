@@ -1,5 +1,5 @@
 -- THE THEOREMS: where nothing differs, what is recorded is our answer, 22 and 23 as the Rust's 1. Of a run: five numbers, and then five for each token.
-use Rattle.std.specs.Prelude.{◌*◌, ◌≤◌, ℕ, List, [], ◌∷◌, ◌++◌, ◌≡◌, drop, get_or, length, replicate, take}
+use Rattle.std.specs.Prelude.{◌*◌, ◌≤◌, ℕ, List, [], ◌∷◌, ◌++◌, ◌≡◌, drop, get_or, length, replicate, take, Result, Ok, Err}
 use Rattle.std.proofs.Common.{arith, ◌∙◌, ap, sym, take-append-drop, take_at, le-ltb}
 use Rattle.std.proofs.Math.Path.{refl}
 use Rattle.record.specs.Numbers.{code_number}
@@ -16,8 +16,6 @@ use Rattle.run.specs.declared.Ran.{Ran}
 use Rattle.run.specs.declared.Group.TheVariants.{Five}
 use Rattle.run.proofs.Groups.{all_length}
 use Rattle.escapes.specs.Answers.{Done, applied, part_check, part_of}
-use Rattle.escapes.specs.declared.Expanded.{Expanded}
-use Rattle.escapes.specs.declared.Expanded.TheVariants.{Part as APart, Refused}
 use Rattle.lent.specs.Copies.{fitted, highest_limit, list_room}
 use Rattle.unknown.specs.Map.{rust_outcome, rust_ran}
 use Rattle.unknown.specs.Runs.{ran-mapped, whole-mapped}
@@ -31,6 +29,8 @@ use Rattle.asked.specs.Answers.{answer_differs, onward}
 use Rattle.asked.specs.Calls.{blank-length}
 use Rattle.asked.specs.Expansions.{expanded_by, expanded_differs, most_room, paint, stands_by, written}
 use Rattle.asked.specs.Texts.{blank, code_of, head_of, listed_differs, most_tokens, numbered_differs, place_of, run_differs, size}
+use Rattle.escapes.specs.declared.Part.{Part}
+use Rattle.record.specs.declared.Refusal.{Refusal}
 
 both : (d e : Difference) → onward d e ≡ Same → (d ≡ Same) × (e ≡ Same)
 both Same e h = (refl, h)
@@ -117,14 +117,14 @@ module _ (s : List ℕ) (shift : ℕ) (recorded : List ℕ) where
   numbered_rust l e = numbered_told l e ∙ as_rust most_tokens
 
 -- and of an expansion: six numbers, and then its bytes
-abbrev pub expanded_numbers : List ℕ → List ℕ → Expanded → List ℕ
-expanded_numbers s d (Refused r) = code_number r.code ∷ r.place ∷ 0 ∷ 0 ∷ 0 ∷ written d ∷ []
-expanded_numbers s d (APart p) = (0 ∷ 0 ∷ stands_by (part_check s d p) p ∷ p.start ∷ p.end ∷ written d ∷ []) ++ part_of s d p
+abbrev pub expanded_numbers : List ℕ → List ℕ → Result Part Refusal → List ℕ
+expanded_numbers s d (Err r) = code_number r.code ∷ r.place ∷ 0 ∷ 0 ∷ 0 ∷ written d ∷ []
+expanded_numbers s d (Ok p) = (0 ∷ 0 ∷ stands_by (part_check s d p) p ∷ p.start ∷ p.end ∷ written d ∷ []) ++ part_of s d p
 
-by_told : (s recorded d : List ℕ) (e : Expanded) → expanded_by s recorded d e ≡ Same → recorded ≡ expanded_numbers s d e
+by_told : (s recorded d : List ℕ) (e : Result Part Refusal) → expanded_by s recorded d e ≡ Same → recorded ≡ expanded_numbers s d e
 unfolding expanded_by
-by_told s recorded d (Refused r) h = answer-told 6 recorded _ [] h
-by_told s recorded d (APart p) h = answer-told 6 recorded _ (part_of s d p) h
+by_told s recorded d (Err r) h = answer-told 6 recorded _ [] h
+by_told s recorded d (Ok p) h = answer-told 6 recorded _ (part_of s d p) h
 
 -- what is made of the numbers that are asked: idx0, the place and the length of the buffer
 abbrev pub made : List ℕ → List ℕ → Done

@@ -1,12 +1,12 @@
 // A recorded expansion, made in a painted buffer; answered is the first difference from what is recorded.
 ghost use Rattle.std.specs.Prelude.{◌≡◌, []};
 ghost use Rattle.escapes.specs.Answers.{applied, part_check};
-ghost use Rattle.escapes.specs.declared.Expanded.TheVariants.{Part as APart, Refused};
 ghost use Rattle.asked.specs.Answers.{answer_differs};
 ghost use Rattle.asked.specs.Expansions.{expand_differs, expanded_by, expanded_differs, stands_by, written};
 
-use escapes::{Expanded, Held, Part};
-use record::{Checked, Refusal};
+use crate::onward;
+use escapes::{Held, Part};
+use record::Refusal;
 use recorded::{Difference, bytes_differ, front, get, numbers_differ, rest};
 
 // The paint: no text has this byte, so no expansion has it.
@@ -24,15 +24,7 @@ const ROOM: usize = 4096;
 fn written(buffer: &[u8]) -> u64
     ensures { result ≡ written buffer.now }
 {
-    let mut n: u64 = 0;
-    let mut i: usize = 0;
-    while i < buffer.len() {
-        if buffer[i] != PAINT {
-            n += 1;
-        }
-        i += 1;
-    }
-    n
+    buffer.iter().filter(|b| **b != PAINT).count() as u64
 }
 
 // Where an expansion stands: 1 in the text, 2 in the buffer; 3 where its range is refused.
@@ -40,8 +32,8 @@ fn stands<'a>(text: &'a [u8], buffer: &'a [u8], part: Part) -> u64
     ensures { result ≡ stands_by (part_check text.now buffer.now part) part }
 {
     match escapes::expansion_check(text, buffer, part) {
-        Checked::Passed => {}
-        Checked::Refused(_) => return 3,
+        Ok(()) => {}
+        Err(_) => return 3,
     }
     let h = part.held;
     match h {
@@ -54,15 +46,14 @@ fn stands<'a>(text: &'a [u8], buffer: &'a [u8], part: Part) -> u64
 fn answer_differs(recorded: &[u64], head: &[u64], answered: &[u8]) -> Difference
     ensures { result ≡ answer_differs 6 recorded.now head.now answered.now }
 {
-    let d = numbers_differ(0, front(recorded, HEAD), head);
-    match d {
-        Difference::Same => bytes_differ(6, rest(recorded, HEAD), answered),
-        _ => d,
-    }
+    onward(
+        numbers_differ(0, front(recorded, HEAD), head),
+        bytes_differ(6, rest(recorded, HEAD), answered),
+    )
 }
 
 fn refusal_differs(text: &[u8], recorded: &[u64], r: Refusal, buffer: &[u8]) -> Difference
-    ensures { result ≡ expanded_by text.now recorded.now buffer.now (Refused r) }
+    ensures { result ≡ expanded_by text.now recorded.now buffer.now (Err r) }
 {
     let k = r.code;
     let head = [
@@ -73,11 +64,11 @@ fn refusal_differs(text: &[u8], recorded: &[u64], r: Refusal, buffer: &[u8]) -> 
         0,
         written(buffer),
     ];
-    answer_differs(recorded, &head, &buffer[0..0])
+    answer_differs(recorded, &head, &[])
 }
 
 fn part_differs<'a>(text: &'a [u8], recorded: &[u64], part: Part, buffer: &'a [u8]) -> Difference
-    ensures { result ≡ expanded_by text.now recorded.now buffer.now (APart part) }
+    ensures { result ≡ expanded_by text.now recorded.now buffer.now (Ok part) }
 {
     let head = [
         0,
@@ -95,8 +86,8 @@ fn expand(text: &[u8], idx0: u64, place: usize, recorded: &[u64], buffer: &mut [
     ensures { result ≡ expand_differs text.now recorded.now (applied text.now idx0 buffer.old place) }
 {
     match escapes::apply_string_escapes(text, idx0, buffer, place) {
-        Expanded::Refused(r) => refusal_differs(text, recorded, r, buffer),
-        Expanded::Part(part) => part_differs(text, recorded, part, buffer),
+        Err(r) => refusal_differs(text, recorded, r, buffer),
+        Ok(part) => part_differs(text, recorded, part, buffer),
     }
 }
 

@@ -3,3 +3,18 @@
 
 pub mod expansions;
 pub mod texts;
+
+ghost use Rattle.std.specs.Prelude.{◌≡◌};
+ghost use Rattle.asked.specs.Answers.{onward};
+
+use recorded::Difference;
+
+// The first of two differences.
+pub(crate) fn onward(d: Difference, e: Difference) -> Difference
+    ensures { result ≡ onward d e }
+{
+    match d {
+        Difference::Same => e,
+        Difference::Length(..) | Difference::Number(..) => d,
+    }
+}

@@ -2,11 +2,11 @@
 ghost use Rattle.std.specs.Prelude.{◌≡◌, ◌≤◌, length};
 ghost use Rattle.record.specs.Numbers.{code_number};
 ghost use Rattle.record.specs.Rust.{rust_number};
-ghost use Rattle.asked.specs.Answers.{answer_differs};
 ghost use Rattle.asked.specs.Texts.{blank, called_differs, code_of, end_differs, is_read, kind_of, length_differs, listed_differs, numbered_differs, place_of, run_differs, size, token_differs};
 
+use crate::onward;
 use reading::{Outcome, Tokenizer, What};
-use record::{Checked, Refusal, Token};
+use record::{Refusal, Token};
 use recorded::{Difference, front, numbers_differ, rest};
 use run::Ran;
 
@@ -59,25 +59,11 @@ fn place(how: Outcome) -> u64
     }
 }
 
-// An answer's first numbers, and then those of its tokens.
-fn answer_differs(recorded: &[u64], head: &[u64], tokens: &[u64]) -> Difference
-    ensures { result ≡ answer_differs 5 recorded.now head.now tokens.now }
-{
-    let d = numbers_differ(0, front(recorded, HEAD), head);
-    match d {
-        Difference::Same => numbers_differ(5, rest(recorded, HEAD), tokens),
-        _ => d,
-    }
-}
-
 // How many numbers so many tokens have.
 fn size(tokens: usize) -> usize
     ensures { result ≡ size tokens }
 {
-    if TOKENS < tokens {
-        return ROOM;
-    }
-    5 * tokens
+    5 * tokens.min(TOKENS)
 }
 
 fn run_differs(recorded: &[u64], ran: Ran, list: &[u64]) -> Difference
@@ -92,7 +78,10 @@ fn run_differs(recorded: &[u64], ran: Ran, list: &[u64]) -> Difference
         ran.advances,
         state.at,
     ];
-    answer_differs(recorded, &head, front(list, size(ran.stored)))
+    onward(
+        numbers_differ(0, front(recorded, HEAD), &head),
+        numbers_differ(5, rest(recorded, HEAD), front(list, size(ran.stored))),
+    )
 }
 
 // 01's form: a whole run into a lent list of records.
@@ -118,8 +107,8 @@ fn is_read(text: &[u8], shift: u64, t: Token) -> bool
     ensures { result ≡ is_read text.now shift t }
 {
     match run::payload_check(text, shift, t) {
-        Checked::Passed => {}
-        Checked::Refused(_) => return false,
+        Ok(()) => {}
+        Err(_) => return false,
     }
     let part = run::payload(text, shift, t);
     part.len() as u64 == t.payload_end - t.payload_start
@@ -178,11 +167,10 @@ fn end_differs(
     ensures { result ≡ end_differs text.now shift recorded.now n code place t }
 {
     let head = [n as u64, code, place, t.count, t.at];
-    let d = numbers_differ(0, front(recorded, HEAD), &head);
-    match d {
-        Difference::Same => length_differs(rest(recorded, HEAD), size(n)),
-        _ => d,
-    }
+    onward(
+        numbers_differ(0, front(recorded, HEAD), &head),
+        length_differs(rest(recorded, HEAD), size(n)),
+    )
 }
 
 // Call by call on a lent tokenizer, until the end, an error or a difference.
@@ -190,8 +178,7 @@ pub fn called(text: &[u8], shift: u64, recorded: &[u64]) -> Difference
     ensures { result ≡ called_differs text.now shift recorded.now }
 {
     let mut t = tok::start();
-    let mut n: usize = 0;
-    while n < TOKENS {
+    for n in 0..TOKENS {
         let s = lent::next_lent(text, shift, HIGHEST, t);
         let what = s.what;
         t = s.next;
@@ -199,7 +186,7 @@ pub fn called(text: &[u8], shift: u64, recorded: &[u64]) -> Difference
             What::Got(x) => {
                 let d = token_differs(text, shift, recorded, n, x);
                 match d {
-                    Difference::Same => n += 1,
+                    Difference::Same => {}
                     _ => return d,
                 }
             }

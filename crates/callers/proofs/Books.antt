@@ -1,6 +1,6 @@
 -- THE BOOKS FROM ANY TOKENIZER. What ledger/specs/Books says of a run from the start of a text, of every run from a tokenizer that a caller has and
 -- that runs: the books then speak of what was left, the text from its cursor on. (One that has ended is repeated: Repeating.)
-use Rattle.std.specs.Prelude.{ℕ, suc, ◌*◌, ◌+◌, ◌-◌, ◌≤◌, List, ◌≡◌, drop}
+use Rattle.std.specs.Prelude.{ℕ, suc, ◌*◌, ◌+◌, ◌-◌, ◌≤◌, List, ◌≡◌, drop, Result, Ok, Err}
 use native.Mathlib.Omega.{arith}
 use Rattle.std.proofs.Math.Path.{refl, ap}
 use Rattle.std.proofs.Common.{sym, ◌∙◌}
@@ -9,8 +9,6 @@ use Rattle.utf8.proofs.Laws.{boundary-whole}
 use Rattle.utf8.specs.Utf8.{chars, reach}
 use Rattle.record.specs.Allowed.{allowed}
 use Rattle.record.specs.Checks.{checks}
-use Rattle.record.specs.declared.Checked.{Checked}
-use Rattle.record.specs.declared.Checked.TheVariants.{Passed, Refused as Stopped}
 use Rattle.record.specs.declared.Token.{Token}
 use Rattle.reading.proofs.Ledger.{bounds, counts as counted, tiles}
 use Rattle.reading.specs.Measures.{Tiled, attempts}
@@ -30,6 +28,7 @@ use Rattle.callers.specs.Cursors.{kept-boundary}
 use Rattle.callers.specs.Refusals.{refused_run}
 use Rattle.callers.specs.Repeated.{counts, whole_is}
 use Rattle.callers.proofs.Repeating.{run_settled}
+use Rattle.record.specs.declared.Refusal.{Refusal}
 
 module _ (s : List ℕ) (shift limit : ℕ) (t : Tokenizer) (kept : Kept s t) (runs : t.done ≡ Running)
     (before : List Token) (r : Ran) (after : List Token) (contract : RunsFrom s shift limit t before r after) where
@@ -41,7 +40,7 @@ module _ (s : List ℕ) (shift limit : ℕ) (t : Tokenizer) (kept : Kept s t) (r
   abbrev inner : Run
   inner = run s shift limit (length before) t
 
-  module _ (p : checks s shift ≡ Passed) where
+  module _ (p : checks s shift ≡ (Ok tt)) where
     tokens_are : held r after ≡ inner.tokens
     tokens_are = found s shift limit before after t r contract ∙ ap (λ (x : Run). x.tokens) (whole_is s shift limit (length before) t p (kept-boundary s shift kept p))
 
@@ -59,7 +58,7 @@ module _ (s : List ℕ) (shift limit : ℕ) (t : Tokenizer) (kept : Kept s t) (r
         counts s shift limit t before r after contract p ∙ ap (λ (x : Ran). x.state.count) contract.0
         ∙ ap (λ (x : Run). x.state.count) (whole_is s shift limit (length before) t p (kept-boundary s shift kept p))
 
-  passed : r.how ≡ Ended → checks s shift ≡ Passed
+  passed : r.how ≡ Ended → checks s shift ≡ Ok tt
   passed e = (run_settled s shift limit t before r after contract (rw e refl)).passed
 
   -- 1. In a run that reaches the end, the gaps, the token spans and the dropped characters tile what was left; and it is read to its last byte.
@@ -83,14 +82,14 @@ module _ (s : List ℕ) (shift limit : ℕ) (t : Tokenizer) (kept : Kept s t) (r
   unfolding run_with
   advances_bound-from = go (checks s shift) refl
     where
-      go : (c : Checked) → checks s shift ≡ c → r.advances ≤ t.count + N rest + 2 * (H rest - B rest) + B rest * N rest
-      go Passed p =
+      go : (c : Result Unit Refusal) → checks s shift ≡ c → r.advances ≤ t.count + N rest + 2 * (H rest - B rest) + B rest * N rest
+      go (Ok tt) p =
           let h = bounds t.reading s shift (N rest) (tell s shift limit (suc (length s)) (length before) t runs) (omega arith) in
           let w = weight_is (N rest) (chars rest) in
           omega (arith, h, w, count_is p)
-      go (Stopped z) p = let h = (refused_run s shift limit t z p before r after contract).0 in let n : r.advances ≡ 0 = ap (λ (x : Ran). x.advances) h in omega arith
+      go (Err z) p = let h = (refused_run s shift limit t z p before r after contract).0 in let n : r.advances ≡ 0 = ap (λ (x : Ran). x.advances) h in omega arith
 
   -- 4. In every run that the checks let pass the count grows by what its calls pass by the definition.
-  pub no_invention_from : checks s shift ≡ Passed → r.advances ≡ t.count + spent t.reading s (r.stored + final_call r.how) t.at
+  pub no_invention_from : checks s shift ≡ (Ok tt) → r.advances ≡ t.count + spent t.reading s (r.stored + final_call r.how) t.at
   unfolding run_with
   no_invention_from p = rw (stored_is p, how_is p) (count_is p ∙ spent-run s shift limit (suc (length s)) (length before) t runs)

@@ -1,9 +1,8 @@
 -- WHAT A REFUSAL LEAVES, by the answer: of any code but an error of the reading nothing is changed, and 11 to 13 report count 0.
-use Rattle.std.specs.Prelude.{ℕ, false, true, List, [], ◌∷◌, ◌≡◌, refl, length}
+use Rattle.std.specs.Prelude.{ℕ, false, true, List, [], ◌∷◌, ◌≡◌, refl, length, Err}
 use Rattle.std.proofs.Common.{arith, sym, ◌∙◌}
 use Rattle.record.specs.Checks.{checks}
 use Rattle.record.specs.Codes.{among}
-use Rattle.record.specs.declared.Checked.TheVariants.{Refused as Stopped}
 use Rattle.record.specs.declared.Code.TheVariants.{NoRoom}
 use Rattle.record.specs.declared.Refusal.{Refusal}
 use Rattle.record.specs.declared.Token.{Token}
@@ -28,14 +27,14 @@ module _ (s : List ℕ) (shift limit : ℕ) (t : Tokenizer) (z : Refusal) (other
   pub nothing_changed : (u : Tokenizer) → Nexts s shift limit t (Error z) u → u ≡ t
   nothing_changed u c = c.1 ∙ next-same s shift limit t z other (sym c.0)
 
-by_checks : (s : List ℕ) (shift limit : ℕ) (u : Tokenizer) (z : Refusal) → Kept s u → is_check z.code ≡ true → (next_token s shift limit u).what ≡ Error z → checks s shift ≡ Stopped z
+by_checks : (s : List ℕ) (shift limit : ℕ) (u : Tokenizer) (z : Refusal) → Kept s u → is_check z.code ≡ true → (next_token s shift limit u).what ≡ Error z → checks s shift ≡ Err z
 unfolding among
 by_checks s shift limit u z k c w = go (single s shift limit u) (kept_done s k)
   where
-    other : (x : Refusal) → is_check x.code ≡ false → next_token s shift limit u ≡ error_at u x → checks s shift ≡ Stopped z
+    other : (x : Refusal) → is_check x.code ≡ false → next_token s shift limit u ≡ error_at u x → checks s shift ≡ Err z
     other x h e = let v : Error x ≡ Error z = rw e at w in let q : x.code ≡ z.code = cc in no (sym c ∙ rw q at h)
 
-    go : Single s shift limit u (next_token s shift limit u) → DoneBy u.done → checks s shift ≡ Stopped z
+    go : Single s shift limit u (next_token s shift limit u) → DoneBy u.done → checks s shift ≡ Err z
     go (refused x p e) d = let v : Error x ≡ Error z = rw e at w in let q : x ≡ z = cc in rw q at p
     go (off p n e) d = other _ refl e
     go (error_kept x h e) d = let v : Error x ≡ Error z = rw e at w in let q : x ≡ z = cc in absurd (not_reading (11 ∷ 12 ∷ 13 ∷ []) apart x.code (rw h.is at d) (rw (← q) at c))
@@ -51,6 +50,6 @@ count_zero s shift limit t k before r after c z h e =
     let d = repeated s shift limit t before r after c in
     refused_run s shift limit t z (go d.reached (reached-kept s shift limit d.calls k) d.last) before r after c
   where
-    go : (u : Tokenizer) → Kept s u → Last s shift limit (length before) u (length (held r after)) r.how r.state → checks s shift ≡ Stopped z
+    go : (u : Tokenizer) → Kept s u → Last s shift limit (length before) u (length (held r after)) r.how r.state → checks s shift ≡ Err z
     go u k' (full y g l w q) = let v : NoRoom ≡ z.code = cc in let j : is_check NoRoom ≡ true = rw (← v) at h in no (sym j)
     go u k' (answers f w q) = by_checks s shift limit u z k' h (said_error (next_token s shift limit u).what r.how z w e)

@@ -1,10 +1,9 @@
 -- REPEATING. 01: "Once a run has answered an error or the end, further calls repeat it with the same count and place". Of `run::next` and of
 -- `run::run`, one after the other in any order, with their checks, from any tokenizer.
-use Rattle.std.specs.Prelude.{ℕ, false, true, List, ◌≡◌, refl, length}
+use Rattle.std.specs.Prelude.{ℕ, false, true, List, ◌≡◌, refl, length, Ok}
 use Rattle.std.proofs.Common.{arith, sym, ap, ◌∙◌}
 use Rattle.record.specs.Checks.{checks}
 use Rattle.record.specs.Codes.{Refuses}
-use Rattle.record.specs.declared.Checked.TheVariants.{Passed}
 use Rattle.record.specs.declared.Code.{Code}
 use Rattle.record.specs.declared.Token.{Token}
 use Rattle.reading.specs.Run.{done_by, step_with, stopped}
@@ -25,7 +24,7 @@ use Rattle.callers.specs.Single.{Single, Stands, end_kept, error_kept, limited, 
 use Rattle.callers.specs.Repeated.{Last, answers, counts, full, repeated}
 
 -- an answer is kept for any shift that the checks let pass
-pub other_shift : (s : List ℕ) (shift shift' : ℕ) (how : Outcome) (u : Tokenizer) → Stands s shift how u → checks s shift' ≡ Passed → Stands s shift' how u
+pub other_shift : (s : List ℕ) (shift shift' : ℕ) (how : Outcome) (u : Tokenizer) → Stands s shift how u → checks s shift' ≡ (Ok tt) → Stands s shift' how u
 other_shift s shift shift' how u k e = record { passed = e; on = k.on; is = k.is }
 
 no : {A : Type 0} → false ≡ true → A

@@ -1,10 +1,9 @@
 -- A single call leaves the cursor on a boundary, if it was on one.
-use Rattle.std.specs.Prelude.{ℕ, true, List, ◌≡◌}
+use Rattle.std.specs.Prelude.{ℕ, true, List, ◌≡◌, Ok}
 use Rattle.utf8.proofs.Laws.{boundary-whole, bounded}
 use Rattle.utf8.specs.Utf8.{boundary}
 use Rattle.record.specs.Allowed.{allowed}
 use Rattle.record.specs.Checks.{checks}
-use Rattle.record.specs.declared.Checked.TheVariants.{Passed}
 use Rattle.record.specs.declared.Reading.{Reading}
 use Rattle.scan.specs.Far.{Far}
 use Rattle.scan.specs.Until.{left}
@@ -33,7 +32,7 @@ module _ (rd : Reading) (s : List ℕ) (at : ℕ) (o : On s at) where
   call-on = let x = next rd (left s at) at in by_laid x.at x.advances x.what (next-laid rd (left s at) at).is
 
 -- a boundary of a text that passed the checks is such a byte, or the end
-pub on_of : (s : List ℕ) (shift p : ℕ) → checks s shift ≡ Passed → boundary s p ≡ true → On s p
+pub on_of : (s : List ℕ) (shift p : ℕ) → checks s shift ≡ (Ok tt) → boundary s p ≡ true → On s p
 on_of s shift p e b = record { within = boundary-within s p b; whole = boundary-whole s p (allowed s shift e).valid b }
 
 -- ---- so of the single call: what is not read leaves the cursor where it was

@@ -1,12 +1,11 @@
 -- WHICH CODES COME OUT. Of the reading only 2, 5, 6, 8, 9, 10, 22 and 23: so 1, 3, 4 and 7, 16 to 21 and those from 24 on never come out of a call or a run.
-use Rattle.std.specs.Prelude.{ℕ, List, [], ◌∷◌}
+use Rattle.std.specs.Prelude.{ℕ, List, [], ◌∷◌, Err}
 use Rattle.std.proofs.Common.{arith, ◌∙◌}
 use Rattle.std.proofs.Math.Bool.{false, true}
 use Rattle.std.proofs.Math.Path.{◌≡◌, refl, sym}
 use Rattle.record.specs.Codes.{Apart, OneOf, among, each, none_of, one_of, refused_for}
 use Rattle.record.specs.Numbers.{code_number}
 use Rattle.record.specs.Records.{refusal}
-use Rattle.record.specs.declared.Checked.TheVariants.{Refused as Stopped}
 use Rattle.record.specs.declared.Code.{Code}
 use Rattle.record.specs.declared.Code.TheVariants.{BadRecord}
 use Rattle.record.specs.declared.Reading.{Reading}
@@ -83,6 +82,6 @@ abbrev pub never_codes : List ℕ
 never_codes = 1 ∷ 3 ∷ 4 ∷ 7 ∷ 16 ∷ 17 ∷ 18 ∷ 19 ∷ 20 ∷ 21 ∷ 24 ∷ 25 ∷ 26 ∷ 27 ∷ 28 ∷ 29 ∷ []
 
 -- ---- the check of a payload refuses for 20 alone
-pub payload-codes : (s : List ℕ) (shift : ℕ) (t : Token) (r : Refusal) → payload_check s shift t ≡ Stopped r → r.code ≡ BadRecord
+pub payload-codes : (s : List ℕ) (shift : ℕ) (t : Token) (r : Refusal) → payload_check s shift t ≡ Err r → r.code ≡ BadRecord
 unfolding payload_check
 payload-codes s shift t r e = refused_for (is_payload s shift t.payload_start t.payload_end) (refusal BadRecord 0) r e

@@ -1,12 +1,11 @@
 -- EVERY CURSOR THAT A CALL LEAVES IS ON A BOUNDARY OF ITS TEXT: of `run::next`, of `run::run`, and so of every tokenizer that a caller has.
-use Rattle.std.specs.Prelude.{ℕ, true, List, ◌≡◌, refl, length}
+use Rattle.std.specs.Prelude.{ℕ, true, List, ◌≡◌, refl, length, Ok}
 use Rattle.std.proofs.Common.{arith}
 use Rattle.utf8.proofs.Laws.{bounded}
 use Rattle.utf8.specs.Laws.{valid_whole}
 use Rattle.utf8.specs.Utf8.{boundary}
 use Rattle.record.specs.Allowed.{allowed}
 use Rattle.record.specs.Checks.{checks}
-use Rattle.record.specs.declared.Checked.TheVariants.{Passed}
 use Rattle.record.specs.declared.Reading.{Reading}
 use Rattle.record.specs.declared.Token.{Token}
 use Rattle.reading.specs.Answers.{start_in}
@@ -58,5 +57,5 @@ module _ (s : List ℕ) (shift limit : ℕ) (t : Tokenizer) (on : boundary s t.a
   after_run before r after c = by_run s (λ u. boundary s u.at ≡ true) (next-boundary s) shift limit t before r after c on
 
 -- so the cursor of every tokenizer that a caller has of a well_formed_lem text is on a boundary, and no call refuses it for 20
-pub kept-boundary : (s : List ℕ) (shift : ℕ) {t : Tokenizer} → Kept s t → checks s shift ≡ Passed → boundary s t.at ≡ true
+pub kept-boundary : (s : List ℕ) (shift : ℕ) {t : Tokenizer} → Kept s t → checks s shift ≡ (Ok tt) → boundary s t.at ≡ true
 kept-boundary s shift d e = by_kept s (λ u. boundary s u.at ≡ true) (next-boundary s) (λ rd. bounded s 0 (omega arith) (valid_whole s (allowed s shift e).valid)) d

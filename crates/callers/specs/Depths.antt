@@ -1,21 +1,17 @@
 -- WHAT THE RECORDS OF A RUN TELL OF DEPTHS, and the run of its last gap, from any tokenizer. 02, E4: "a record keeps two, for the gap before it and for its
 -- code", "the last gap's stands beside the count, 0 unless the end is reached". `Layers` (spans/specs/Depths) says a gap's depth of its characters alone.
 use Prim.Native.Nat.{ℕ, zero, suc, ◌+◌, ◌-◌}
-use Rattle.std.proofs.Common.{arith, sym, ◌∙◌, take-append-drop, drop-drop}
+use Rattle.std.proofs.Common.{arith, sym, ◌∙◌, take-append-drop, drop-drop, Option, Some, Result, Ok, Err}
 use Rattle.std.specs.Prelude.{Bool, List, [], ◌++◌, ◌∷◌, ◌≡◌, ltb, drop, length, take}
 use Rattle.std.proofs.Math.Bool.{false, true}
 use Rattle.std.proofs.Math.Path.{refl, ap}
 use Rattle.std.proofs.Math.Seq.{drop-length, take-length}
 use Rattle.utf8.specs.Utf8.{boundary}
 use Rattle.record.specs.Checks.{checks}
-use Rattle.record.specs.declared.Checked.{Checked}
-use Rattle.record.specs.declared.Checked.TheVariants.{Passed, Refused as Stopped}
 use Rattle.record.specs.declared.Kind.{Kind}
 use Rattle.record.specs.declared.Reading.{Reading}
 use Rattle.record.specs.declared.Refusal.{Refusal}
 use Rattle.record.specs.declared.Token.{Token}
-use Rattle.record.specs.declared.Told.{Told}
-use Rattle.record.specs.declared.Told.TheVariants.{Is}
 use Rattle.scan.specs.Far.{after, far_left, then}
 use Rattle.scan.specs.Until.{left}
 use Rattle.code.specs.Code.{code_depth_of}
@@ -49,7 +45,7 @@ pub record GapTold (s : List ℕ) (shift at : ℕ) (t : Token) : Type 0 where
   pub stands : left s at ≡ chars ++ left s place
   pub start : t.start ≡ place + shift
   pub layers : Layers (left s place) chars depth
-  pub told : t.gap_depth ≡ Is depth
+  pub told : t.gap_depth ≡ Some depth
 
 -- where the gap after a token starts: at its end, or, in the old reading, past the character that is dropped after an attribute
 abbrev pub gap_from : Reading → List ℕ → Kind → ℕ → ℕ
@@ -69,8 +65,8 @@ last_from rd s shift at (t ∷ ts) = last_from rd s shift (gap_from rd s t.kind 
 pub record CodeTold (rd : Reading) (s : List ℕ) (shift : ℕ) (t : Token) : Type 0 where
   pub place : ℕ
   pub from : t.payload_start ≡ place + shift
-  pub code : takes_code t.kind ≡ true → t.code_depth ≡ Is (code_depth_of rd (left s place) place)
-  pub flat : takes_code t.kind ≡ false → t.code_depth ≡ Is 0
+  pub code : takes_code t.kind ≡ true → t.code_depth ≡ Some (code_depth_of rd (left s place) place)
+  pub flat : takes_code t.kind ≡ false → t.code_depth ≡ Some 0
 
 abbrev pub AllCodes : Reading → List ℕ → ℕ → List Token → Type 0
 AllCodes rd s shift [] = Unit {0}
@@ -211,10 +207,10 @@ module _ (s : List ℕ) (shift limit : ℕ) where
     unfolding whole_run_with
     whole P f g = go (checks s shift) (boundary s t.at) refl
       where
-        go : (c : Checked) (b : Bool) → boundary s t.at ≡ b → P (run_if c s shift limit room t)
-        go (Stopped z) b q = f z
-        go Passed false q = rw q (f _)
-        go Passed true q = rw q g
+        go : (c : Result Unit Refusal) (b : Bool) → boundary s t.at ≡ b → P (run_if c s shift limit room t)
+        go (Err z) b q = f z
+        go (Ok tt) false q = rw q (f _)
+        go (Ok tt) true q = rw q g
 
     whole-lasts : (t.done ≡ Ended → ⊥) → Lasts t.reading t.at (whole_run s shift limit room t)
     unfolding run_with
@@ -271,7 +267,7 @@ module _ (s : List ℕ) (shift limit : ℕ) (t : Tokenizer) (y : Token) (u : Tok
   next-code-told = let d = delivered s shift limit t y u contract in rw d.shifted (call-code t.reading s shift t.at d.token d.got)
 
 -- "and the writers accept either": what the LTK writer takes of a record is the same whatever that tells of depths
-pub either_written : (g d : Told) (t : Token)
+pub either_written : (g d : Option ℕ) (t : Token)
     → entry_of (record { kind = t.kind; start = t.start; end = t.end; payload_start = t.payload_start; payload_end = t.payload_end; gap_depth = g; code_depth = d })
     ≡ entry_of t
 either_written g d t = refl

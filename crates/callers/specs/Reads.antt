@@ -1,8 +1,7 @@
 -- A TEXT READ BY REPEATED `run::next`. Its answers are the records of `run::run`, its answer and its count.
-use Rattle.std.specs.Prelude.{ℕ, ◌≤◌, ◌<◌, List, [], ◌∷◌, ◌≡◌, refl, length}
+use Rattle.std.specs.Prelude.{ℕ, ◌≤◌, ◌<◌, List, [], ◌∷◌, ◌≡◌, refl, length, Ok}
 use Rattle.std.proofs.Common.{arith, sym, ap, ◌∙◌}
 use Rattle.record.specs.Checks.{checks}
-use Rattle.record.specs.declared.Checked.TheVariants.{Passed}
 use Rattle.record.specs.declared.Token.{Token}
 use Rattle.reading.specs.Run.{done_by}
 use Rattle.reading.specs.declared.Tokenizer.{Tokenizer}
@@ -47,7 +46,7 @@ pub record Same (s : List ℕ) (shift : ℕ) (ts : List Token) (r : What) (u : T
   pub records : held ran after ≡ ts
   pub answer : ran.how ≡ done_by r
   pub state : ran.state ≡ u
-  pub count : checks s shift ≡ Passed → ran.advances ≡ u.count
+  pub count : checks s shift ≡ (Ok tt) → ran.advances ≡ u.count
 
 module _ (s : List ℕ) (shift limit : ℕ) (t : Tokenizer) (ts : List Token) (r : What) (u : Tokenizer) (reads : Reads s shift limit t ts r u)
     (before : List Token) (ran : Ran) (after : List Token) (room : length ts ≤ length before) (contract : RunsFrom s shift limit t before ran after) where

@@ -1,10 +1,9 @@
 -- WHAT A REFUSAL LEAVES. 01: "11 to 13 report count 0"; "answers 20, nothing changed"; 14 and 15 "leave the tokenizer as before that call".
-use Rattle.std.specs.Prelude.{ℕ, Bool, false, true, List, [], ◌∷◌, ◌≡◌, refl}
+use Rattle.std.specs.Prelude.{ℕ, Bool, false, true, List, [], ◌∷◌, ◌≡◌, refl, Err}
 use Rattle.std.proofs.Common.{arith, sym, ap, ◌∙◌}
 use Rattle.record.specs.Checks.{checks}
 use Rattle.record.specs.Codes.{Apart, among, each}
 use Rattle.record.specs.Numbers.{code_number}
-use Rattle.record.specs.declared.Checked.TheVariants.{Refused as Stopped}
 use Rattle.record.specs.declared.Code.{Code}
 use Rattle.record.specs.declared.Refusal.{Refusal}
 use Rattle.record.specs.declared.Token.{Token}
@@ -24,7 +23,7 @@ use Rattle.callers.specs.PublicCalls.{Nexts, RunsFrom}
 use Rattle.callers.specs.Single.{Single, call_of, end_kept, error_kept, limited, off, read, refused, single}
 
 -- ---- THE THEOREMS. What the checks refuse, 11 to 13, from any tokenizer
-module _ (s : List ℕ) (shift limit : ℕ) (t : Tokenizer) (z : Refusal) (refused : checks s shift ≡ Stopped z) where
+module _ (s : List ℕ) (shift limit : ℕ) (t : Tokenizer) (z : Refusal) (refused : checks s shift ≡ Err z) where
   -- a single call answers it and leaves the tokenizer
   pub refused_next : (r : What) (u : Tokenizer) → Nexts s shift limit t r u → (r ≡ Error z) × (u ≡ t)
   unfolding next_token_with

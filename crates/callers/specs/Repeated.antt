@@ -1,14 +1,12 @@
 -- A RUN IS REPEATED CALLS. What `run::run` stores, answers and leaves is what `run::next` answers and leaves, called again and again.
 use Prim.Native.Nat.{ℕ, zero, suc, ◌-◌, ◌≤◌}
-use Rattle.std.proofs.Common.{arith, sym, ap, ◌∙◌, ltb-false, ltb-true}
+use Rattle.std.proofs.Common.{arith, sym, ap, ◌∙◌, ltb-false, ltb-true, Result, Ok, Err}
 use Rattle.std.specs.Prelude.{Bool, List, [], ◌∷◌, ◌≡◌, ltb, length}
 use Rattle.std.proofs.Math.Bool.{true, false}
 use Rattle.std.proofs.Math.Path.{refl}
 use Rattle.utf8.specs.Utf8.{boundary}
 use Rattle.record.specs.Checks.{checks}
 use Rattle.record.specs.Records.{refusal}
-use Rattle.record.specs.declared.Checked.{Checked}
-use Rattle.record.specs.declared.Checked.TheVariants.{Passed, Refused as Stopped}
 use Rattle.record.specs.declared.Code.TheVariants.{BadRecord, NoRoom}
 use Rattle.record.specs.declared.Refusal.{Refusal}
 use Rattle.record.specs.declared.Token.{Token}
@@ -69,7 +67,7 @@ module _ (s : List ℕ) (shift limit : ℕ) where
       → TellsOf s shift limit room t (record { tokens = []; how = how; state = u; last = g })
   at_once room t u w how g e q f h = record { reached = t; fits = omega arith; calls = none; last = answers (λ y g. f y (sym e ∙ g)) (h ∙ ap (λ (x : What). done_by x) (sym e)) (sym q) }
 
-  module _ (c : checks s shift ≡ Passed) where
+  module _ (c : checks s shift ≡ (Ok tt)) where
     next-step : (t : Tokenizer) → boundary s t.at ≡ true → step s shift limit t ≡ next_token s shift limit t
     unfolding next_token_with
     next-step t b = rw (c, b)
@@ -117,10 +115,10 @@ module _ (s : List ℕ) (shift limit : ℕ) where
   unfolding whole_run_with run_with next_token_with
   tells room t = go (checks s shift) (boundary s t.at) refl refl
     where
-      go : (c : Checked) (b : Bool) → checks s shift ≡ c → boundary s t.at ≡ b → TellsOf s shift limit room t (run_if (checks s shift) s shift limit room t)
-      go (Stopped r) b e q = rw e (at_once room t t (Error r) (Refused r) 0 (rw e) (rw e) (no_got r) refl)
-      go Passed false e q = rw (e, q) (at_once room t t (Error (refusal BadRecord 0)) (Refused (refusal BadRecord 0)) 0 (rw (e, q)) (rw (e, q)) (no_got (refusal BadRecord 0)) refl)
-      go Passed true e q = rw (e, q) (tells-from e (suc (length s)) room t q (never_running s shift limit room t (ready_of s shift t e q)))
+      go : (c : Result Unit Refusal) (b : Bool) → checks s shift ≡ c → boundary s t.at ≡ b → TellsOf s shift limit room t (run_if (checks s shift) s shift limit room t)
+      go (Err r) b e q = rw e (at_once room t t (Error r) (Refused r) 0 (rw e) (rw e) (no_got r) refl)
+      go (Ok tt) false e q = rw (e, q) (at_once room t t (Error (refusal BadRecord 0)) (Refused (refusal BadRecord 0)) 0 (rw (e, q)) (rw (e, q)) (no_got (refusal BadRecord 0)) refl)
+      go (Ok tt) true e q = rw (e, q) (tells-from e (suc (length s)) room t q (never_running s shift limit room t (ready_of s shift t e q)))
 
 -- THE THEOREM. What a caller of `run::run` finds in the list, its answer and its tokenizer are those of repeated `run::next`.
 pub repeated : (s : List ℕ) (shift limit : ℕ) (t : Tokenizer) (before : List Token) (r : Ran) (after : List Token) → RunsFrom s shift limit t before r after
@@ -132,11 +130,11 @@ repeated s shift limit t before r after c =
 
 -- where the checks pass, the advances that a run reports are its tokenizer's count
 pub counts : (s : List ℕ) (shift limit : ℕ) (t : Tokenizer) (before : List Token) (r : Ran) (after : List Token) → RunsFrom s shift limit t before r after
-    → checks s shift ≡ Passed → r.advances ≡ r.state.count
+    → checks s shift ≡ (Ok tt) → r.advances ≡ r.state.count
 unfolding ran_with
 counts s shift limit t before r after c p = ap (λ (x : Ran). x.advances) c.0 ∙ rw p (ap (λ (x : Ran). x.state.count) (sym c.0))
 
 -- and there the run is the one that is read
-pub whole_is : (s : List ℕ) (shift limit room : ℕ) (t : Tokenizer) → checks s shift ≡ Passed → boundary s t.at ≡ true → whole_run s shift limit room t ≡ run s shift limit room t
+pub whole_is : (s : List ℕ) (shift limit room : ℕ) (t : Tokenizer) → checks s shift ≡ (Ok tt) → boundary s t.at ≡ true → whole_run s shift limit room t ≡ run s shift limit room t
 unfolding whole_run_with
 whole_is s shift limit room t p b = rw (p, b)

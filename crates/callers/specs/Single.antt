@@ -1,11 +1,9 @@
 -- THE SINGLE CALL, IN CASES. What `run::next` answers and leaves, from any tokenizer, in the order in which it looks.
-use Rattle.std.specs.Prelude.{ℕ, ◌+◌, Bool, false, true, List, ◌≡◌, refl, ltb}
+use Rattle.std.specs.Prelude.{ℕ, ◌+◌, Bool, false, true, List, ◌≡◌, refl, ltb, Result, Ok, Err}
 use Rattle.std.proofs.Common.{arith, ◌∙◌, ap, sym}
 use Rattle.utf8.specs.Utf8.{boundary}
 use Rattle.record.specs.Checks.{checks}
 use Rattle.record.specs.Records.{refusal}
-use Rattle.record.specs.declared.Checked.{Checked}
-use Rattle.record.specs.declared.Checked.TheVariants.{Passed, Refused as Stopped}
 use Rattle.record.specs.declared.Code.TheVariants.{BadRecord, WorkLimit}
 use Rattle.record.specs.declared.Refusal.{Refusal}
 use Rattle.record.specs.declared.Token.{Token}
@@ -24,7 +22,7 @@ use Rattle.callers.specs.PublicCalls.{Nexts}
 
 -- a text that passed the checks, and a tokenizer with its cursor on a boundary, done as is said
 pub record Stands (s : List ℕ) (shift : ℕ) (done : Outcome) (t : Tokenizer) : Type 0 where
-  pub passed : checks s shift ≡ Passed
+  pub passed : checks s shift ≡ Ok tt
   pub on : boundary s t.at ≡ true
   pub is : t.done ≡ done
 
@@ -46,9 +44,9 @@ read_by shift t x = record {
 
 pub data Single (s : List ℕ) (shift limit : ℕ) (t : Tokenizer) (x : Stepped) : Type 0 where
   -- 12, 13, 11: "A public single call repeats the checks,"
-  refused : (z : Refusal) → checks s shift ≡ Stopped z → x ≡ error_at t z → Single s shift limit t x
+  refused : (z : Refusal) → checks s shift ≡ Err z → x ≡ error_at t z → Single s shift limit t x
   -- "then answers 20, nothing changed, for a cursor off its text's boundaries"
-  off : checks s shift ≡ Passed → boundary s t.at ≡ false → x ≡ error_at t (refusal BadRecord 0) → Single s shift limit t x
+  off : checks s shift ≡ (Ok tt) → boundary s t.at ≡ false → x ≡ error_at t (refusal BadRecord 0) → Single s shift limit t x
   -- "Once a run has answered an error or the end, further calls repeat it"
   error_kept : (z : Refusal) → Stands s shift (Refused z) t → x ≡ error_at t z → Single s shift limit t x
   end_kept : Stands s shift Ended t → x ≡ record { what = End; next = t; gap_depth = 0 } → Single s shift limit t x
@@ -61,14 +59,14 @@ pub single : (s : List ℕ) (shift limit : ℕ) (t : Tokenizer) → Single s shi
 unfolding next_token_with step_with
 single s shift limit t = go (checks s shift) (boundary s t.at) t.done (ltb limit (t.count + (call_of s t).advances)) refl refl refl refl
   where
-    go : (c : Checked) (b : Bool) (d : Outcome) (l : Bool) → checks s shift ≡ c → boundary s t.at ≡ b → t.done ≡ d → ltb limit (t.count + (call_of s t).advances) ≡ l
+    go : (c : Result Unit Refusal) (b : Bool) (d : Outcome) (l : Bool) → checks s shift ≡ c → boundary s t.at ≡ b → t.done ≡ d → ltb limit (t.count + (call_of s t).advances) ≡ l
         → Single s shift limit t (next_token s shift limit t)
-    go (Stopped z) b d l p q r e = refused z p (rw p)
-    go Passed false d l p q r e = off p q (rw (p, q))
-    go Passed true (Refused z) l p q r e = error_kept z (record { passed = p; on = q; is = r }) (rw (p, q, r))
-    go Passed true Ended l p q r e = end_kept (record { passed = p; on = q; is = r }) (rw (p, q, r))
-    go Passed true Running true p q r e = limited (record { passed = p; on = q; is = r }) e (rw (p, q, r, e))
-    go Passed true Running false p q r e = read (record { passed = p; on = q; is = r }) e (rw (p, q, r, e))
+    go (Err z) b d l p q r e = refused z p (rw p)
+    go (Ok tt) false d l p q r e = off p q (rw (p, q))
+    go (Ok tt) true (Refused z) l p q r e = error_kept z (record { passed = p; on = q; is = r }) (rw (p, q, r))
+    go (Ok tt) true Ended l p q r e = end_kept (record { passed = p; on = q; is = r }) (rw (p, q, r))
+    go (Ok tt) true Running true p q r e = limited (record { passed = p; on = q; is = r }) e (rw (p, q, r, e))
+    go (Ok tt) true Running false p q r e = read (record { passed = p; on = q; is = r }) e (rw (p, q, r, e))
 
 -- a token that a single call answers is that of the call of the reading, with the shift
 pub record Delivered (s : List ℕ) (shift : ℕ) (t : Tokenizer) (y : Token) : Type 0 where

@@ -1,6 +1,6 @@
 -- WHAT A STRING LITERAL OF A RUN SPANS: a quote, the characters up to the first quote that isn't escaped by a backslash, and that quote. Of every token of that
 -- kind that a run stores, from any tokenizer, and said of the text alone.
-use Rattle.std.specs.Prelude.{ℕ, ◌+◌, Bool, length}
+use Rattle.std.specs.Prelude.{ℕ, ◌+◌, Bool, length, Ok, Err}
 use Rattle.std.proofs.Common.{arith, sym, ◌∙◌}
 use Rattle.std.proofs.Math.Bool.{false, true}
 use mathlib.Core.List.{List, [], ◌∷◌}
@@ -20,10 +20,8 @@ use Rattle.record.specs.declared.Token.{Token}
 use Rattle.scan.specs.Far.{after}
 use Rattle.scan.specs.Readers.{string_end}
 use Rattle.scan.specs.Until.{left}
-use Rattle.scan.specs.declared.Found.{Found}
-use Rattle.scan.specs.declared.Found.TheVariants.{At, Nothing}
-use Rattle.scan.specs.declared.Skip.{Skip}
-use Rattle.scan.specs.declared.Skip.TheVariants.{Lost, Past}
+use Rattle.scan.specs.Shapes.{Found}
+use Rattle.scan.specs.Shapes.{Skip}
 use Rattle.reading.specs.Answers.{deliver, more, refuse, told, told_token}
 use Rattle.reading.specs.Gaps.{gap, gap_depth_of}
 use Rattle.reading.specs.Next.{next, starts, token, token_or_end}
@@ -92,7 +90,7 @@ module _ (s : List ℕ) (shift : ℕ) (t : Token) where
   by_string p cs l e = go (string_end 34 cs (p + 1)) refl
     where
       go : (f : Found) → string_end 34 cs (p + 1) ≡ f → Quoted s shift (shift_token shift t)
-      go (At q m) g =
+      go (Ok (q, m)) g =
           let u : Got (token_of StringLiteral p (q + 1) (p + 1) q) ≡ Got t = rw g at e in
           let v : token_of StringLiteral p (q + 1) (p + 1) q ≡ t = cc in
           let c = string_found 34 refl cs (p + 1) q m g in
@@ -108,7 +106,7 @@ module _ (s : List ℕ) (shift : ℕ) (t : Token) where
             to = ap (λ (j : ℕ). j + shift) c.1;
             end = ap (λ (j : ℕ). j + 1 + shift) c.1;
           })
-      go (Nothing q m) g = let u : Error _ ≡ Got t = rw g at e in let w : ◌≡◌ {A = ℕ} 0 1 = cc in absurd (omega arith)
+      go (Err (q, m)) g = let u : Error _ ≡ Got t = rw g at e in let w : ◌≡◌ {A = ℕ} 0 1 = cc in absurd (omega arith)
 
   by_first : (rd : Reading) (p : ℕ) (cs : List ℕ) → left s p ≡ cs → (token_or_end rd cs p).what ≡ Got t → is_string t.kind ≡ true → Quoted s shift (shift_token shift t)
   unfolding token_or_end more
@@ -141,11 +139,11 @@ unfolding more told
 call_quoted rd s shift t at e k = go (gap (left s at) at) refl
   where
     go : (x : Skip) → gap (left s at) at ≡ x → Quoted s shift (shift_token shift t)
-    go (Past p m) g =
+    go (Ok (p, m)) g =
         let y = token_or_end rd (left s p) p in
         let u = untold (gap_depth_of (left s at) at) y.code_depth y.what t (ap (λ (x : Call). x.what) (sym (next-gap rd s at p m g)) ∙ e) in
         rw u.with_depths (deep_quoted s shift _ _ u.token (by_first s shift u.token rd p (left s p) refl u.got (rw u.with_depths at k)))
-    go (Lost r p m) g =
+    go (Err (r, p, m)) g =
         let u : Error r ≡ Got t = ap (λ (x : Call). x.what) (sym (next_lost rd s at p m r g)) ∙ e in
         let w : ◌≡◌ {A = ℕ} 0 1 = cc in
         absurd (omega arith)

@@ -1,5 +1,5 @@
 -- What each cover passes leads to the place that it answers, and so does the code; a turn opens at most one bracket more.
-use Rattle.std.specs.Prelude.{◌+◌, ◌≤◌, ℕ, Bool, false, true, ◌≡◌, eqb, drop}
+use Rattle.std.specs.Prelude.{◌+◌, ◌≤◌, ℕ, Bool, false, true, ◌≡◌, eqb, drop, Ok, Err}
 use native.Mathlib.Omega.{arith}
 use Rattle.std.proofs.Math.Bool.{cond}
 use mathlib.Core.List.{List, [], ◌∷◌}
@@ -19,10 +19,8 @@ use Rattle.scan.specs.Passes.{Balance, From, Good, Sound, balances, block_sound,
 use Rattle.scan.specs.Seek.{block_comment, line_skip, seek, skip_more}
 use Rattle.scan.specs.Until.{left}
 use Rattle.scan.specs.Walk.{turn_of}
-use Rattle.scan.specs.declared.Found.{Found}
-use Rattle.scan.specs.declared.Found.TheVariants.{At, Nothing}
-use Rattle.scan.specs.declared.Skip.{Skip}
-use Rattle.scan.specs.declared.Skip.TheVariants.{Lost, Past}
+use Rattle.scan.specs.Shapes.{Found}
+use Rattle.scan.specs.Shapes.{Skip}
 use Rattle.scan.specs.declared.Sought.TheVariants.{Hashes, Newline, Quote, Word}
 use Rattle.scan.specs.declared.Turn.TheVariants.{Fail, Pass}
 use Rattle.code.specs.Code.{body_skip, closing_hashes, code_end, code_last, code_turn, esc_past, esc_skip, hash_past, hash_skip, one_skip, quote_end, quote_last, quote_skip, r_skip, regex_start, slash_skip}
@@ -38,24 +36,24 @@ slash_sound o (c ∷ cs) at =
 -- what stands after a slash, by the code's own sight of it
 module _ (o : ℕ) {s : List ℕ} {at : ℕ} where
   pub slash_on : {k w : ℕ} → Seen s at k w
-      → slash_skip o (left s at) at ≡ cond (eqb k '/) (line_skip (left s at) at) (cond (eqb k '*) (skip_more 1 (block_comment o (left s (at + w)) (at + w))) (Past at 0))
+      → slash_skip o (left s at) at ≡ cond (eqb k '/) (line_skip (left s at) at) (cond (eqb k '*) (skip_more 1 (block_comment o (left s (at + w)) (at + w))) (Ok (at, 0)))
   unfolding slash_skip
   slash_on h = rw (h.next, h.width)
 
-  pub slash_end : Ended s at → slash_skip o (left s at) at ≡ Past at 0
+  pub slash_end : Ended s at → slash_skip o (left s at) at ≡ Ok (at, 0)
   unfolding slash_skip
   slash_end e = rw e.none
 
 -- the same with what is passed before it, as the code counts
-more-none : (p m : ℕ) → Past p m ≡ skip_more m (Past p 0)
+more-none : (p m : ℕ) → Ok (p, m) ≡ skip_more m (Ok (p, 0))
 more-none p m = let e : m + 0 ≡ m = omega arith in rw e
 
-lost_none : (r : Refusal) (p m : ℕ) → Lost r p m ≡ skip_more m (Lost r p 0)
+lost_none : (r : Refusal) (p m : ℕ) → Err (r, p, m) ≡ skip_more m (Err (r, p, 0))
 lost_none r p m = let e : m + 0 ≡ m = omega arith in rw e
 
 more-more : (n m : ℕ) (x : Skip) → skip_more n (skip_more m x) ≡ skip_more (n + m) x
-more-more n m (Past p k) = let e : n + (m + k) ≡ n + m + k = omega arith in rw e
-more-more n m (Lost r p k) = let e : n + (m + k) ≡ n + m + k = omega arith in rw e
+more-more n m (Ok (p, k)) = let e : n + (m + k) ≡ n + m + k = omega arith in rw e
+more-more n m (Err (r, p, k)) = let e : n + (m + k) ≡ n + m + k = omega arith in rw e
 
 more_test : (n : ℕ) (t : Bool) (x y : Skip) → skip_more n (cond t x y) ≡ cond t (skip_more n x) (skip_more n y)
 more_test n true x y = refl
@@ -63,8 +61,8 @@ more_test n false x y = refl
 
 -- with the backslash and the character after it
 abbrev pub esc_passed : Reading → ℕ → List ℕ → Found → Skip
-esc_passed rd o cs (At p m) = skip_more (m + 3) (quote_end rd o (drop (m + 1) cs) (p + 1))
-esc_passed rd o cs (Nothing p m) = Lost (refusal UnterminatedCharacterLiteral o) p (m + 2)
+esc_passed rd o cs (Ok (p, m)) = skip_more (m + 3) (quote_end rd o (drop (m + 1) cs) (p + 1))
+esc_passed rd o cs (Err (p, m)) = Err (refusal UnterminatedCharacterLiteral o, p, m + 2)
 
 -- at the end of the text
 last_sound : (rd : Reading) (o at : ℕ) → Sound [] at (quote_last rd o at)
@@ -72,11 +70,11 @@ unfolding quote_last
 last_sound Old o at = sound_lost _ [] at
 last_sound Kept o at = sound_here [] at
 
-pub last_old : (o at m : ℕ) → skip_more m (quote_last Old o at) ≡ Lost (refusal UnterminatedCharacterLiteral o) at m
+pub last_old : (o at m : ℕ) → skip_more m (quote_last Old o at) ≡ Err (refusal UnterminatedCharacterLiteral o, at, m)
 unfolding quote_last
 last_old o at m = sym (lost_none _ at m)
 
-pub last-kept : (o at m : ℕ) → skip_more m (quote_last Kept o at) ≡ Past at m
+pub last-kept : (o at m : ℕ) → skip_more m (quote_last Kept o at) ≡ Ok (at, m)
 unfolding quote_last
 last-kept o at m = sym (more-none at m)
 
@@ -104,8 +102,8 @@ module _ (rd : Reading) where
   esc_sound o (c ∷ cs) at = sound_one c cs at _ (go (seek Quote cs (at + width_of c)) refl)
     where
       go : (f : Found) → seek Quote cs (at + width_of c) ≡ f → Sound cs (at + width_of c) (esc_past rd o cs f)
-      go (At p m) e = sound_more (m + 1) cs (at + width_of c) (p + 1) _ (quote_past cs (at + width_of c) p m e) (end_sound o (drop (m + 1) cs) (p + 1))
-      go (Nothing p m) e = record { is = seek-none cs (at + width_of c) p m Quote e }
+      go (Ok (p, m)) e = sound_more (m + 1) cs (at + width_of c) (p + 1) _ (quote_past cs (at + width_of c) p m e) (end_sound o (drop (m + 1) cs) (p + 1))
+      go (Err (p, m)) e = record { is = seek-none cs (at + width_of c) p m Quote e }
 
   quote_sound : (o : ℕ) (cs : List ℕ) (at : ℕ) → Sound cs at (quote_skip rd o cs at)
   unfolding quote_skip
@@ -115,7 +113,7 @@ module _ (rd : Reading) where
       let v = sound_one c cs at _ (one_sound o cs (at + width_of c)) in
       search sound_test
 
-  pub end_passed : (o c : ℕ) (cs : List ℕ) (at m : ℕ) → skip_more m (quote_end rd o (c ∷ cs) at) ≡ Past at m
+  pub end_passed : (o c : ℕ) (cs : List ℕ) (at m : ℕ) → skip_more m (quote_end rd o (c ∷ cs) at) ≡ Ok (at, m)
   unfolding quote_end
   end_passed o c cs at m = sym (more-none at m)
 
@@ -123,22 +121,22 @@ module _ (rd : Reading) where
   unfolding quote_end
   end-last o at m = refl
 
-  pub one_passed : (o c : ℕ) (cs : List ℕ) (at : ℕ) → skip_more 1 (one_skip rd o (c ∷ cs) at) ≡ cond (eqb c 'quote) (skip_more 2 (quote_end rd o cs (at + width_of c))) (Past at 1)
+  pub one_passed : (o c : ℕ) (cs : List ℕ) (at : ℕ) → skip_more 1 (one_skip rd o (c ∷ cs) at) ≡ cond (eqb c 'quote) (skip_more 2 (quote_end rd o cs (at + width_of c))) (Ok (at, 1))
   unfolding one_skip
   one_passed o c cs at =
-      more_test 1 (eqb c 'quote) (skip_more 1 (quote_end rd o cs (at + width_of c))) (Past at 0)
-      ∙ ap (λ (x : Skip). cond (eqb c 'quote) x (Past at 1)) (more-more 1 1 (quote_end rd o cs (at + width_of c)))
+      more_test 1 (eqb c 'quote) (skip_more 1 (quote_end rd o cs (at + width_of c))) (Ok (at, 0))
+      ∙ ap (λ (x : Skip). cond (eqb c 'quote) x (Ok (at, 1))) (more-more 1 1 (quote_end rd o cs (at + width_of c)))
 
   pub esc_passed_lem : (o c : ℕ) (cs : List ℕ) (at : ℕ) → skip_more 1 (esc_skip rd o (c ∷ cs) at) ≡ esc_passed rd o cs (seek Quote cs (at + width_of c))
   unfolding esc_skip
   esc_passed_lem o c cs at = go (seek Quote cs (at + width_of c))
     where
       go : (f : Found) → skip_more 1 (skip_more 1 (esc_past rd o cs f)) ≡ esc_passed rd o cs f
-      go (At p m) =
+      go (Ok (p, m)) =
           let e : 2 + (m + 1) ≡ m + 3 = omega arith in
           let x = quote_end rd o (drop (m + 1) cs) (p + 1) in
           more-more 1 1 (skip_more (m + 1) x) ∙ more-more 2 (m + 1) x ∙ ap (λ (n : ℕ). skip_more n x) e
-      go (Nothing p m) = let e : 1 + (1 + m) ≡ m + 2 = omega arith in rw e
+      go (Err (p, m)) = let e : 1 + (1 + m) ≡ m + 2 = omega arith in rw e
 
   -- hashes in code
   pub body_sound : (o m : ℕ) (cs : List ℕ) (p : ℕ) → Sound cs p (body_skip rd o m cs p)
@@ -153,8 +151,8 @@ module _ (rd : Reading) where
   hash_sound o cs at = go (seek Hashes cs at) refl
     where
       go : (r : Found) → seek Hashes cs at ≡ r → Sound cs at (hash_past rd o cs r)
-      go (At p m) e = sound_more m cs at p _ (seek-at cs at p m Hashes e) (body_sound o m (drop m cs) p)
-      go (Nothing p m) e = record { is = seek-none cs at p m Hashes e }
+      go (Ok (p, m)) e = sound_more m cs at p _ (seek-at cs at p m Hashes e) (body_sound o m (drop m cs) p)
+      go (Err (p, m)) e = record { is = seek-none cs at p m Hashes e }
 
   r_sound : (r : ℕ) (cs : List ℕ) (at : ℕ) → Sound cs at (r_skip rd r cs at)
   unfolding r_skip

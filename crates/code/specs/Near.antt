@@ -1,5 +1,5 @@
 -- A refusal in code stands from the start of what is refused up to the cursor.
-use Rattle.std.specs.Prelude.{ℕ, ◌+◌, ◌-◌, ◌≤◌, ◌≡◌, refl, drop}
+use Rattle.std.specs.Prelude.{ℕ, ◌+◌, ◌-◌, ◌≤◌, ◌≡◌, refl, drop, Ok, Err}
 use native.Mathlib.Omega.{arith}
 use mathlib.Core.List.{List, [], ◌∷◌}
 use Rattle.utf8.specs.Chars.{'#}
@@ -9,8 +9,7 @@ use Rattle.record.specs.declared.Reading.TheVariants.{Kept, Old}
 use Rattle.scan.specs.Near.{Near, NearTurn, block_near, far_on, near_lost, near_lower, near_more, near_next, near_past, near_test, near_turns, regex_near, string_near, upto_near, walk_near}
 use Rattle.scan.specs.Passes.{quote_past, seek-at, seek-none}
 use Rattle.scan.specs.Seek.{seek}
-use Rattle.scan.specs.declared.Found.{Found}
-use Rattle.scan.specs.declared.Found.TheVariants.{At, Nothing}
+use Rattle.scan.specs.Shapes.{Found}
 use Rattle.scan.specs.declared.Sought.TheVariants.{Hashes, Newline, Quote, Word}
 use Rattle.code.specs.Code.{body_skip, closing_hashes, code_end, code_last, code_turn, esc_past, esc_skip, hash_past, hash_skip, one_skip, quote_end, quote_last, quote_skip, r_skip, regex_start, slash_skip}
 
@@ -52,10 +51,10 @@ module _ (rd : Reading) where
     esc_near (c ∷ cs) at h = near_more o 1 _ (go (seek Quote cs (at + width_of c)) refl)
       where
         go : (f : Found) → seek Quote cs (at + width_of c) ≡ f → Near o (esc_past rd o cs f)
-        go (At p m) e =
+        go (Ok (p, m)) e =
             let g = far_on cs (at + width_of c) (m + 1) (p + 1) (quote_past cs (at + width_of c) p m e) in
             near_more o (m + 1) _ (end_near (drop (m + 1) cs) (p + 1) (omega arith))
-        go (Nothing p m) e =
+        go (Err (p, m)) e =
             let g = far_on cs (at + width_of c) m p (seek-none cs (at + width_of c) p m Quote e) in
             near_lost o _ o p m (omega arith) (omega arith)
 
@@ -80,8 +79,8 @@ module _ (rd : Reading) where
     hash_near cs at h = go (seek Hashes cs at) refl
       where
         go : (f : Found) → seek Hashes cs at ≡ f → Near o (hash_past rd o cs f)
-        go (At p m) e = let g = far_on cs at m p (seek-at cs at p m Hashes e) in near_more o m _ (body_near m (drop m cs) p (omega arith))
-        go (Nothing p m) e = let g = far_on cs at m p (seek-none cs at p m Hashes e) in near_lost o _ o p m (omega arith) (omega arith)
+        go (Ok (p, m)) e = let g = far_on cs at m p (seek-at cs at p m Hashes e) in near_more o m _ (body_near m (drop m cs) p (omega arith))
+        go (Err (p, m)) e = let g = far_on cs at m p (seek-none cs at p m Hashes e) in near_lost o _ o p m (omega arith) (omega arith)
 
   -- a regex starts at its letter or at its first hash
   start_near : (rd' : Reading) (r : ℕ) (cs : List ℕ) (at : ℕ) → r ≤ at → Near r (hash_skip rd (regex_start rd' r at) cs at)

@@ -12,7 +12,7 @@ use Rattle.scan.specs.Depth.{depth_from}
 use Rattle.scan.specs.Turns.{walk_pass}
 use Rattle.scan.specs.Until.{left}
 use Rattle.scan.specs.Walk.{walk_from}
-use Rattle.scan.specs.declared.Skip.{Skip}
+use Rattle.scan.specs.Shapes.{Skip}
 use Rattle.scan.specs.declared.Turn.TheVariants.{Pass}
 use Rattle.code.specs.Code.{closes, code_turn, opens}
 

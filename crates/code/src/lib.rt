@@ -5,7 +5,6 @@
 ghost use Rattle.std.specs.Prelude.{◌≡◌, ◌≤◌, ◌+◌, ◌-◌, ◌<◌, length, drop};
 ghost use Rattle.utf8.specs.Utf8.{chars};
 ghost use Rattle.record.specs.Records.{refusal};
-ghost use Rattle.scan.specs.declared.Skip.TheVariants.{Lost};
 ghost use Rattle.utf8.specs.Chars.{'/};
 ghost use Rattle.scan.specs.Depth.{comment_depth, cover_depth, slash_depth};
 ghost use Rattle.scan.specs.Seek.{block_comment, skip_more};
@@ -16,18 +15,18 @@ ghost use Rattle.code.specs.Stops.{class_stop, code_stops};
 ghost use Rattle.code.specs.Code.{slash_skip, quote_last, quote_end, one_skip, esc_skip, quote_skip, regex_start, closing_hashes, body_skip, hash_skip, r_skip, opens, closes, code_turn, code_end, code_depth_of};
 
 use record::{Code, Reading, Refusal};
-use scan::{Deep, Found, Skip, Sought, Turn, Turned};
-use utf8::{Sight, signs};
+use scan::{Deep, Found, Skip, Sought, Turn};
+use utf8::signs;
 
 // What starts at o is refused; the cursor stands at p, after m characters.
 fn lost(code: Code, o: usize, p: usize, m: usize) -> Skip
-    ensures { result ≡ Lost (refusal code o) p m }
+    ensures { result ≡ Err (refusal code o, p, m) }
 {
     let r = Refusal {
         code,
         place: o as u64,
     };
-    Skip::Lost(r, p, m)
+    Err((r, p, m))
 }
 
 // A cover's answer with n more characters passed before it.
@@ -36,45 +35,45 @@ fn skip_more(n: usize, x: Skip) -> Skip
     ensures { result ≡ skip_more n x }
 {
     match x {
-        Skip::Past(p, m) => Skip::Past(p, n + m),
-        Skip::Lost(r, p, m) => Skip::Lost(r, p, n + m),
+        Ok((p, m)) => Ok((p, n + m)),
+        Err((r, p, m)) => Err((r, p, n + m)),
     }
 }
 
 // A block comment that starts at o, from after its slash and star; the star is counted.
-fn block_skip(s: &[u8], at: usize, o: usize) -> Deep
-    ensures { (result.skip ≡ skip_more 1 (block_comment o (chars (drop at s.now)) at)) × (result.depth ≡ comment_depth (chars (drop at s.now))) }
+fn block_skip(s: &[u8], at: usize, o: usize) -> Deep<Skip>
+    ensures { (result.what ≡ skip_more 1 (block_comment o (chars (drop at s.now)) at)) × (result.depth ≡ comment_depth (chars (drop at s.now))) }
 {
     let x = scan::block_comment(s, at, o);
-    let skip = x.skip;
+    let skip = x.what;
     Deep {
-        skip: skip_more(1, skip),
+        what: skip_more(1, skip),
         depth: x.depth,
     }
 }
 
 // What is passed without a block comment.
-fn flat(skip: Skip) -> Deep
-    ensures { (result.skip ≡ skip) × (result.depth ≡ 0) }
+fn flat(what: Skip) -> Deep<Skip>
+    ensures { (result.what ≡ what) × (result.depth ≡ 0) }
 {
-    Deep { skip, depth: 0 }
+    Deep { what, depth: 0 }
 }
 
 // After a slash at o: a comment, or nothing to pass.
-fn slash_skip(s: &[u8], at: usize, o: usize) -> Deep
-    ensures { (result.skip ≡ slash_skip o (chars (drop at s.now)) at) × (result.depth ≡ slash_depth (chars (drop at s.now))) }
+fn slash_skip(s: &[u8], at: usize, o: usize) -> Deep<Skip>
+    ensures { (result.what ≡ slash_skip o (chars (drop at s.now)) at) × (result.depth ≡ slash_depth (chars (drop at s.now))) }
 {
     match utf8::char_at(s, at) {
-        Sight::Char { code, width } => {
+        Some((code, width)) => {
             if code == signs::SLASH {
                 return flat(scan::up_to(scan::take_until(s, at, Sought::Newline)));
             }
             if code == signs::STAR {
                 return block_skip(s, at + width, o);
             }
-            flat(Skip::Past(at, 0))
+            flat(Ok((at, 0)))
         }
-        Sight::End => flat(Skip::Past(at, 0)),
+        None => flat(Ok((at, 0))),
     }
 }
 
@@ -85,7 +84,7 @@ fn quote_last(rd: Reading, at: usize, o: usize, m: usize) -> Skip
 {
     match rd {
         Reading::Old => lost(Code::UnterminatedCharacterLiteral, o, at, m),
-        Reading::Kept => Skip::Past(at, m),
+        Reading::Kept => Ok((at, m)),
     }
 }
 
@@ -94,8 +93,8 @@ fn quote_end(s: &[u8], rd: Reading, at: usize, o: usize, m: usize) -> Skip
     ensures { result ≡ skip_more m (quote_end rd o (chars (drop at s.now)) at) }
 {
     match utf8::char_at(s, at) {
-        Sight::Char { code: _, width: _ } => Skip::Past(at, m),
-        Sight::End => quote_last(rd, at, o, m),
+        Some((_, _)) => Ok((at, m)),
+        None => quote_last(rd, at, o, m),
     }
 }
 
@@ -104,13 +103,13 @@ fn one_skip(s: &[u8], rd: Reading, at: usize, o: usize) -> Skip
     ensures { result ≡ skip_more 1 (one_skip rd o (chars (drop at s.now)) at) }
 {
     match utf8::char_at(s, at) {
-        Sight::Char { code, width } => {
+        Some((code, width)) => {
             if code == signs::QUOTE {
                 return quote_end(s, rd, at + width, o, 2);
             }
-            Skip::Past(at, 1)
+            Ok((at, 1))
         }
-        Sight::End => quote_end(s, rd, at, o, 1),
+        None => quote_end(s, rd, at, o, 1),
     }
 }
 
@@ -119,13 +118,13 @@ fn esc_skip(s: &[u8], rd: Reading, at: usize, o: usize) -> Skip
     ensures { result ≡ skip_more 1 (esc_skip rd o (chars (drop at s.now)) at) }
 {
     match utf8::char_at(s, at) {
-        Sight::Char { code: _, width } => match scan::take_until(s, at + width, Sought::Quote) {
-            Found::At { place, passed } => quote_end(s, rd, place + 1, o, passed + 3),
-            Found::Nothing { place, passed } => {
+        Some((_, width)) => match scan::take_until(s, at + width, Sought::Quote) {
+            Ok((place, passed)) => quote_end(s, rd, place + 1, o, passed + 3),
+            Err((place, passed)) => {
                 lost(Code::UnterminatedCharacterLiteral, o, place, passed + 2)
             }
         },
-        Sight::End => lost(Code::UnterminatedCharacterLiteral, o, at, 1),
+        None => lost(Code::UnterminatedCharacterLiteral, o, at, 1),
     }
 }
 
@@ -134,13 +133,13 @@ fn take_lifetime_or_character_literal(s: &[u8], rd: Reading, at: usize, o: usize
     ensures { result ≡ quote_skip rd o (chars (drop at s.now)) at }
 {
     match utf8::char_at(s, at) {
-        Sight::Char { code, width } => {
+        Some((code, width)) => {
             if code == signs::BACKSLASH {
                 return esc_skip(s, rd, at + width, o);
             }
             one_skip(s, rd, at + width, o)
         }
-        Sight::End => lost(Code::UnterminatedCharacterLiteral, o, at, 0),
+        None => lost(Code::UnterminatedCharacterLiteral, o, at, 0),
     }
 }
 
@@ -179,7 +178,7 @@ fn body_skip(s: &[u8], rd: Reading, at: usize, o: usize, m: usize) -> Skip
     ensures { result ≡ body_skip rd o m (chars (drop at s.now)) at }
 {
     match utf8::char_at(s, at) {
-        Sight::Char { code, width } => {
+        Some((code, width)) => {
             if code == signs::DOUBLE_QUOTE {
                 return skip_more(1, scan::regex_skip(s, at + width, o, closing_hashes(rd, m)));
             }
@@ -188,7 +187,7 @@ fn body_skip(s: &[u8], rd: Reading, at: usize, o: usize, m: usize) -> Skip
             }
             lost(Code::ExpectedStringLiteral, at, at, 0)
         }
-        Sight::End => lost(Code::UnterminatedStringLiteral, o, at, 0),
+        None => lost(Code::UnterminatedStringLiteral, o, at, 0),
     }
 }
 
@@ -197,10 +196,8 @@ fn hash_skip(s: &[u8], rd: Reading, at: usize, o: usize) -> Skip
     ensures { result ≡ hash_skip rd o (chars (drop at s.now)) at }
 {
     match scan::take_until(s, at, Sought::Hashes) {
-        Found::At { place, passed } => skip_more(passed, body_skip(s, rd, place, o, passed)),
-        Found::Nothing { place, passed } => {
-            lost(Code::UnterminatedStringLiteral, o, place, passed)
-        }
+        Ok((place, passed)) => skip_more(passed, body_skip(s, rd, place, o, passed)),
+        Err((place, passed)) => { lost(Code::UnterminatedStringLiteral, o, place, passed) }
     }
 }
 
@@ -211,7 +208,7 @@ fn r_skip(s: &[u8], rd: Reading, at: usize, r: usize) -> Skip
     if scan::is_next(s, at, signs::HASH) {
         return hash_skip(s, rd, at, regex_start(rd, r, at));
     }
-    Skip::Past(at, 0)
+    Ok((at, 0))
 }
 
 fn is_open(c: u32) -> bool
@@ -274,27 +271,27 @@ fn code_turn(s: &[u8], rd: Reading, at: usize, next: usize, c: u32, b: usize) ->
 }
 
 // What a slash at a place does.
-fn slash_turn(s: &[u8], at: usize, next: usize, b: usize) -> Turned
-    ensures { (result.turn ≡ turn_of b (slash_skip at (chars (drop next s.now)) next)) × (result.depth ≡ slash_depth (chars (drop next s.now))) }
+fn slash_turn(s: &[u8], at: usize, next: usize, b: usize) -> Deep<Turn>
+    ensures { (result.what ≡ turn_of b (slash_skip at (chars (drop next s.now)) next)) × (result.depth ≡ slash_depth (chars (drop next s.now))) }
 {
     let x = slash_skip(s, next, at);
-    let skip = x.skip;
-    Turned {
-        turn: scan::to_turn(b, skip),
+    let skip = x.what;
+    Deep {
+        what: scan::to_turn(b, skip),
         depth: x.depth,
     }
 }
 
 // What the character c at a place does, with b brackets open, and how deep the comment goes that it starts.
-fn turn(s: &[u8], rd: Reading, at: usize, next: usize, c: u32, b: usize) -> Turned
+fn turn(s: &[u8], rd: Reading, at: usize, next: usize, c: u32, b: usize) -> Deep<Turn>
     requires { b < 9223372036854775808 }
-    ensures { (result.turn ≡ code_turn rd b c (chars (drop next s.now)) at next) × (result.depth ≡ cover_depth c (chars (drop next s.now))) }
+    ensures { (result.what ≡ code_turn rd b c (chars (drop next s.now)) at next) × (result.depth ≡ cover_depth c (chars (drop next s.now))) }
 {
     if c == signs::SLASH {
         return slash_turn(s, at, next, b);
     }
-    Turned {
-        turn: code_turn(s, rd, at, next, c, b),
+    Deep {
+        what: code_turn(s, rd, at, next, c, b),
         depth: 0,
     }
 }
@@ -304,27 +301,13 @@ fn code_run<'a>(stops: &'a [u8], s: &'a [u8], from: usize) -> usize
     requires { length stops.now ≡ 256 }
     ensures { result ≡ from + run (class_stop stops.now) (drop from s.now) }
 {
-    let mut at = from;
-    while at < s.len() {
-        let i = index(s[at]);
-        if stops[i] != b'.' {
-            return at;
-        }
-        at += 1;
-    }
-    at
+    scan::runs::run(s, from, |x| stops[usize::from(x)] != b'.')
 }
 
-fn index(x: u8) -> usize
-    ensures { (result ≡ x) × (result < 256) }
-{
-    x as usize
-}
-
-// The loop of `code`, with a table of all bytes: a dot for each one that changes nothing.
-fn code_by<'a>(stops: &'a [u8], s: &'a [u8], rd: Reading, at: usize, start: usize) -> Deep
+// The loop of `code`, with a table of all bytes: a dot for each one that changes nothing. A loop: a turn goes on where its reader ends.
+fn code_by<'a>(stops: &'a [u8], s: &'a [u8], rd: Reading, at: usize, start: usize) -> Deep<Skip>
     requires { stops.now ≡ code_stops }
-    ensures { (result.skip ≡ code_end rd start (chars (drop at s.now)) at) × (result.depth ≡ code_depth_of rd (chars (drop at s.now)) at) }
+    ensures { (result.what ≡ code_end rd start (chars (drop at s.now)) at) × (result.depth ≡ code_depth_of rd (chars (drop at s.now)) at) }
 {
     let mut p = at;
     let mut n: usize = 0;
@@ -335,19 +318,19 @@ fn code_by<'a>(stops: &'a [u8], s: &'a [u8], rd: Reading, at: usize, start: usiz
         n = n + (to - p);
         p = to;
         match utf8::char_at(s, p) {
-            Sight::Char { code, width } => {
+            Some((code, width)) => {
                 let x = turn(s, rd, p, p + width, code, b);
-                let what = x.turn;
+                let what = x.what;
                 match what {
                     Turn::Stop => {
                         return Deep {
-                            skip: Skip::Past(p, n),
+                            what: Ok((p, n)),
                             depth: deep,
                         };
                     }
                     Turn::Fail(r, q, m) => {
                         return Deep {
-                            skip: Skip::Lost(r, q, n + 1 + m),
+                            what: Err((r, q, n + 1 + m)),
                             depth: deep,
                         };
                     }
@@ -359,15 +342,15 @@ fn code_by<'a>(stops: &'a [u8], s: &'a [u8], rd: Reading, at: usize, start: usiz
                     }
                 }
             }
-            Sight::End => {
+            None => {
                 if b == 0 {
                     return Deep {
-                        skip: Skip::Past(p, n),
+                        what: Ok((p, n)),
                         depth: deep,
                     };
                 }
                 return Deep {
-                    skip: lost(Code::UnterminatedCode, start, p, n),
+                    what: lost(Code::UnterminatedCode, start, p, n),
                     depth: deep,
                 };
             }
@@ -377,8 +360,8 @@ fn code_by<'a>(stops: &'a [u8], s: &'a [u8], rd: Reading, at: usize, start: usiz
 
 // The Rust's `code`: where the code from a place ends, for a token that starts at `start`, and the greatest depth of the comments in it. The table is
 // lent once for the whole loop.
-pub fn code(s: &[u8], rd: Reading, at: usize, start: usize) -> Deep
-    ensures { (result.skip ≡ code_end rd start (chars (drop at s.now)) at) × (result.depth ≡ code_depth_of rd (chars (drop at s.now)) at) }
+pub fn code(s: &[u8], rd: Reading, at: usize, start: usize) -> Deep<Skip>
+    ensures { (result.what ≡ code_end rd start (chars (drop at s.now)) at) × (result.depth ≡ code_depth_of rd (chars (drop at s.now)) at) }
 {
     code_by(
         b"..................................#....###..#..#...........#...............................#.#....................#........#.#..################################################################################################################################",

@@ -1,27 +1,26 @@
 -- What a buffer holds into which a part was put that fits: its bytes, and then what was there.
-use Rattle.std.specs.Prelude.{ℕ, ◌+◌, ◌-◌, ◌≤◌, Bool, List, [], ◌∷◌, ◌++◌, ◌≡◌, refl, drop, length, take}
+use Rattle.std.specs.Prelude.{ℕ, ◌+◌, ◌-◌, ◌≤◌, Bool, List, [], ◌∷◌, ◌++◌, ◌≡◌, refl, drop, length, take, Some}
 use Rattle.std.proofs.Common.{arith, le-ltb, append_assoc, append-nil, sym, ap, ◌∙◌, length-append, length-drop, take-append-drop, drop_at, drop-drop, length-take-le, take_at}
 use Rattle.record.specs.declared.Reading.{Reading}
 use Rattle.run.specs.declared.Group.{Group}
 use Rattle.text.specs.Bytes.{join}
 use Rattle.text.specs.Lay.{Laid, lay, lay_all}
-use Rattle.text.specs.declared.Came.TheVariants.{To}
 use Rattle.commands.specs.Parts.{list_part}
 use Rattle.commands.specs.Sizes.{list_part-fits, part_room}
 
 abbrev laid : ℕ → List ℕ → Laid
-laid n x = record { to = To n; held = x }
+laid n x = record { to = Some n; held = x }
 
 same : (a b : ℕ) (x y : List ℕ) → a ≡ b → x ≡ y → laid a x ≡ laid b y
 same a b x y e f = rw (e, f) refl
 
-lay-fits : (d : List ℕ) (at : ℕ) (l : List ℕ) → at + length l ≤ length d → lay d (To at) l ≡ laid (at + length l) (take at d ++ l ++ drop (at + length l) d)
+lay-fits : (d : List ℕ) (at : ℕ) (l : List ℕ) → at + length l ≤ length d → lay d (Some at) l ≡ laid (at + length l) (take at d ++ l ++ drop (at + length l) d)
 unfolding lay
 lay-fits d at l h = rw (le-ltb (length d) (at + length l) h) refl
 
 -- the bytes of all lines stand one after another
 pub lay-join : (ls : List (List ℕ)) (d : List ℕ) (at : ℕ) → at + length (join ls) ≤ length d
-    → lay_all d (To at) ls ≡ laid (at + length (join ls)) (take at d ++ join ls ++ drop (at + length (join ls)) d)
+    → lay_all d (Some at) ls ≡ laid (at + length (join ls)) (take at d ++ join ls ++ drop (at + length (join ls)) d)
 unfolding join lay_all
 lay-join [] d at h =
     let e : at + 0 ≡ at = omega arith in
@@ -46,7 +45,7 @@ lay-join (l ∷ ls) d at h =
 
 -- so of `list`, in a buffer as `teyk` has it: nothing is left out
 pub list_held : (rd : Reading) (g : Group) (p : ℕ) (headed : Bool) (name s d : List ℕ) → length name ≤ 4096 → part_room ≤ length d
-    → lay_all d (To 0) (list_part rd g p headed name s) ≡ laid (length (join (list_part rd g p headed name s))) (join (list_part rd g p headed name s) ++ drop (length (join (list_part rd g p headed name s))) d)
+    → lay_all d (Some 0) (list_part rd g p headed name s) ≡ laid (length (join (list_part rd g p headed name s))) (join (list_part rd g p headed name s) ++ drop (length (join (list_part rd g p headed name s))) d)
 list_held rd g p headed name s d h k =
     let b = join (list_part rd g p headed name s) in
     let f = list_part-fits rd g p headed name s h in

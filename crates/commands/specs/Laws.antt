@@ -2,7 +2,7 @@
 use Prim.Native.Nat.{ℕ, zero, suc, ◌+◌, ◌-◌, ◌*◌, ◌/◌, ◌≤◌, ◌<◌}
 use native.Mathlib.Omega.{arith}
 use borrow.Author.Tests.{eq-eqb, le-ltb, lt-ltb, ne_eqb}
-use Rattle.std.specs.Prelude.{Bool, true, false, ◌&&◌, cond, ◌≡◌, drop, get_or, take, eqb}
+use Rattle.std.specs.Prelude.{Bool, true, false, ◌&&◌, cond, ◌≡◌, drop, get_or, take, eqb, Option, Some, Result, Ok, Err}
 use mathlib.Core.List.{List, [], ◌∷◌, ◌++◌, append-nil, map}
 use Rattle.std.proofs.Math.Path.{refl, ap}
 use Rattle.std.proofs.Common.{sym, ◌∙◌, drop_of_length-le, length-drop, get_or-drop, take_all}
@@ -10,16 +10,12 @@ use Rattle.std.proofs.Math.ListN.{length}
 use Rattle.std.proofs.Math.Seq.{drop-drop, drop-nil, take-nil}
 use Rattle.text.specs.Lay.{Laid, lay, lay_all}
 use Rattle.text.specs.Lines.{depth_line, error_line, header_line, token_line}
-use Rattle.text.specs.declared.Came.{Came}
-use Rattle.text.specs.declared.Came.TheVariants.{To}
 use Rattle.std.proofs.Math.Dec.{ltb}
 use Rattle.utf8.specs.Picks.{tests}
 use Rattle.utf8.specs.Utf8.{boundary}
 use Rattle.record.specs.Checks.{checks}
 use Rattle.record.specs.Numbers.{code_number}
 use Rattle.record.specs.Records.{over, refusal}
-use Rattle.record.specs.declared.Checked.{Checked}
-use Rattle.record.specs.declared.Checked.TheVariants.{Passed, Refused as Stopped}
 use Rattle.record.specs.declared.Code.TheVariants.{BadRecord, TooLong}
 use Rattle.record.specs.declared.Reading.{Reading}
 use Rattle.record.specs.declared.Token.{Token}
@@ -37,23 +33,24 @@ use Rattle.run.specs.declared.Group.TheVariants.{Five, Nine}
 use Rattle.lent.specs.Copies.{fitted}
 use Rattle.commands.specs.Lists.{Left, header_lines, highest, limit_lines, list_err, number_line, number_lines, people_lines, ran_line, record_line, room, text_limit}
 use Rattle.commands.specs.Parts.{chunk, chunk_lines, held_lines, last_part, list_last, list_more, list_part, list_part_err, list_tokens, only_in, part_lines, run_last, run_tokens}
+use Rattle.record.specs.declared.Refusal.{Refusal}
 
 -- what a call answers and leaves behind is what the definition says
-abbrev pub Is : Laid → Came → List ℕ → Type 0
+abbrev pub Is : Laid → Option ℕ → List ℕ → Type 0
 Is x r d = (r ≡ x.to) × (d ≡ x.held)
 
-pub lay-one : (d : List ℕ) (from : Came) (l : List ℕ) (r : Came) (x : List ℕ) → Is (lay d from l) r x → Is (lay_all d from (l ∷ [])) r x
+pub lay-one : (d : List ℕ) (from : Option ℕ) (l : List ℕ) (r : Option ℕ) (x : List ℕ) → Is (lay d from l) r x → Is (lay_all d from (l ∷ [])) r x
 unfolding lay_all
 lay-one d from l r x h = h
 
 -- two lines
-pub lay-two : (d : List ℕ) (from : Came) (l m : List ℕ) (c : Came) (e : List ℕ) (r : Came) (x : List ℕ)
+pub lay-two : (d : List ℕ) (from : Option ℕ) (l m : List ℕ) (c : Option ℕ) (e : List ℕ) (r : Option ℕ) (x : List ℕ)
     → Is (lay d from l) c e → Is (lay e c m) r x → Is (lay_all d from (l ∷ m ∷ [])) r x
 unfolding lay_all
 lay-two d from l m c e r x h k = rw (← h.0, ← h.1) k
 
 -- lines after lines
-pub lay-more : (d : List ℕ) (from : Came) (ls ms : List (List ℕ)) (c : Came) (e : List ℕ) (r : Came) (x : List ℕ)
+pub lay-more : (d : List ℕ) (from : Option ℕ) (ls ms : List (List ℕ)) (c : Option ℕ) (e : List ℕ) (r : Option ℕ) (x : List ℕ)
     → Is (lay_all d from ls) c e → Is (lay_all e c ms) r x → Is (lay_all d from (ls ++ ms)) r x
 unfolding lay_all
 lay-more d from [] ms c e r x h k = rw (← h.0, ← h.1) k
@@ -94,17 +91,17 @@ module _ (p : ℕ) (l : List ℕ) where
   line_nine = rw (first, get_or-drop p l 1 0, get_or-drop p l 2 0, get_or-drop p l 5 0, get_or-drop p l 6 0) refl
 
 -- ---- the lines of records: i of n are put
-abbrev pub Going : Group → List ℕ → Came → ℕ → List ℕ → List ℕ → Came → ℕ → Type 0
+abbrev pub Going : Group → List ℕ → Option ℕ → ℕ → List ℕ → List ℕ → Option ℕ → ℕ → Type 0
 Going g d from n l e c i = (i ≤ n) × (lay_all e c (number_lines g (n - i) (drop (size_of g * i) l)) ≡ lay_all d from (number_lines g n l))
 
-module _ (g : Group) (d : List ℕ) (from : Came) (n : ℕ) (l : List ℕ) where
+module _ (g : Group) (d : List ℕ) (from : Option ℕ) (n : ℕ) (l : List ℕ) where
   pub going-first : Going g d from n l d from 0
   going-first =
       let e : n - 0 ≡ n = omega arith in
       (omega arith, rw (e, no-groups g) refl)
 
-  module _ (e : List ℕ) (c : Came) (i : ℕ) (o : Going g d from n l e c i) where
-    pub going_on : (r : Came) (x : List ℕ) → i < n → Is (lay e c (number_line g (drop (size_of g * i) l))) r x → Going g d from n l x r (i + 1)
+  module _ (e : List ℕ) (c : Option ℕ) (i : ℕ) (o : Going g d from n l e c i) where
+    pub going_on : (r : Option ℕ) (x : List ℕ) → i < n → Is (lay e c (number_line g (drop (size_of g * i) l))) r x → Going g d from n l x r (i + 1)
     unfolding lay_all number_lines
     going_on r x h k =
         let a : n - i ≡ suc (n - (i + 1)) = omega arith in
@@ -119,14 +116,14 @@ module _ (g : Group) (d : List ℕ) (from : Came) (n : ℕ) (l : List ℕ) where
         (ap (λ (x : Laid). x.to) t, ap (λ (x : Laid). x.held) t)
 
 -- ---- a run delivers no more tokens than there is room for
-tokens_if : (c : Checked) (s : List ℕ) (shift limit room : ℕ) (t : Tokenizer) → length (run_if c s shift limit room t).tokens ≤ room
+tokens_if : (c : Result Unit Refusal) (s : List ℕ) (shift limit room : ℕ) (t : Tokenizer) → length (run_if c s shift limit room t).tokens ≤ room
 unfolding run_with
-tokens_if Passed s shift limit room t = go (boundary s t.at)
+tokens_if (Ok tt) s shift limit room t = go (boundary s t.at)
   where
     go : (b : Bool) → length (cond b (run_from s shift limit (suc (length s)) room t) (stopped (Refused (refusal BadRecord 0)) t)).tokens ≤ room
     go true = room-from next s shift limit (suc (length s)) room t
     go false = omega arith
-tokens_if (Stopped r) s shift limit room t = omega arith
+tokens_if (Err r) s shift limit room t = omega arith
 
 pub tokens-room : (s : List ℕ) (shift limit room : ℕ) (t : Tokenizer) → length (whole_run s shift limit room t).tokens ≤ room
 unfolding whole_run_with
@@ -198,14 +195,14 @@ module _ (g : Group) (a m n k : ℕ) (l : List ℕ) (size : k ≡ size_of g) (fe
   pub rest-held : size_of g * m ≤ length (take (length l - k * a) (drop (k * a) l))
   rest-held = rw (size, rest-is (size_of g * a) l, length-drop (size_of g * a) l) (rest-fits g a m n (length l) few held).1
 
-module _ (g : Group) (p n : ℕ) (l d : List ℕ) (from : Came) where
+module _ (g : Group) (p n : ℕ) (l d : List ℕ) (from : Option ℕ) where
   pub chunk-none : n / chunk < p → Is (lay_all d from (chunk_lines g p n l)) from d
   unfolding chunk_lines lay_all number_lines
   chunk-none h =
       let z : n - chunk * p ≡ 0 = omega (arith, h) in
       rw z (refl, refl)
 
-  module _ (k : ℕ) (start : k ≡ size_of g * (chunk * p)) (r : Came) (x : List ℕ) where
+  module _ (k : ℕ) (start : k ≡ size_of g * (chunk * p)) (r : Option ℕ) (x : List ℕ) where
     pub chunk_full : chunk < n - chunk * p → Is (lay_all d from (number_lines g chunk (take (length l - k) (drop k l)))) r x → Is (lay_all d from (chunk_lines g p n l)) r x
     unfolding chunk_lines
     chunk_full h i = rw (lt-ltb chunk (n - chunk * p) h) (rw (rest-is k l, start) at i)
@@ -216,7 +213,7 @@ module _ (g : Group) (p n : ℕ) (l d : List ℕ) (from : Came) where
     chunk-left h i = rw (le-ltb chunk (n - chunk * p) h) (rw (rest-is k l, start) at i)
 
 -- ---- what `part_onto` puts
-pub held_none : (g : Group) (p n : ℕ) (l d : List ℕ) (from : Came) → length l / size_of g < n → Is (lay_all d from (held_lines g p n l)) from d
+pub held_none : (g : Group) (p n : ℕ) (l d : List ℕ) (from : Option ℕ) → length l / size_of g < n → Is (lay_all d from (held_lines g p n l)) from d
 unfolding held_lines lay_all
 held_none g p n l d from h = rw (lt-ltb (length l / size_of g) n h) (refl, refl)
 
@@ -225,13 +222,13 @@ unfolding held_lines
 held_all g p n l h = rw (le-ltb (length l / size_of g) n h)
 
 -- ---- a part from where the header came to
-abbrev pub SaidFrom : Group → ℕ → List Token → List ℕ → List (List ℕ) → List ℕ → Came → List ℕ → Came → List ℕ → Came → List ℕ → Bool → Type 0
+abbrev pub SaidFrom : Group → ℕ → List Token → List ℕ → List (List ℕ) → List ℕ → Option ℕ → List ℕ → Option ℕ → List ℕ → Option ℕ → List ℕ → Bool → Type 0
 SaidFrom g p ts last errs d from f r x q y more =
-    Left (lay_all d from (part_lines g p ts last)) (lay_all f (To 0) (only_in (last_part ts) p errs)) r x q y × (more ≡ ltb p (last_part ts))
+    Left (lay_all d from (part_lines g p ts last)) (lay_all f (Some 0) (only_in (last_part ts) p errs)) r x q y × (more ≡ ltb p (last_part ts))
 
-module _ (g : Group) (p : ℕ) (ts : List Token) (last : List ℕ) (errs : List (List ℕ)) (d : List ℕ) (from : Came) (f : List ℕ) where
-  pub end-part : (n : ℕ) (c : Came) (e : List ℕ) (r : Came) (x : List ℕ) (q : Came) (y : List ℕ) → n ≡ length ts → p ≡ n / chunk
-      → Is (lay_all d from (map (record_line g) (take chunk (drop (chunk * p) ts)))) c e → Is (lay e c last) r x → Is (lay_all f (To 0) errs) q y
+module _ (g : Group) (p : ℕ) (ts : List Token) (last : List ℕ) (errs : List (List ℕ)) (d : List ℕ) (from : Option ℕ) (f : List ℕ) where
+  pub end-part : (n : ℕ) (c : Option ℕ) (e : List ℕ) (r : Option ℕ) (x : List ℕ) (q : Option ℕ) (y : List ℕ) → n ≡ length ts → p ≡ n / chunk
+      → Is (lay_all d from (map (record_line g) (take chunk (drop (chunk * p) ts)))) c e → Is (lay e c last) r x → Is (lay_all f (Some 0) errs) q y
       → SaidFrom g p ts last errs d from f r x q y false
   unfolding only_in part_lines
   end-part n c e r x q y k h a b i =
@@ -239,20 +236,20 @@ module _ (g : Group) (p : ℕ) (ts : List Token) (last : List ℕ) (errs : List 
       let w = lay-more d from (map (record_line g) (take chunk (drop (chunk * p) ts))) (last ∷ []) c e r x a (lay-one e c _ r x b) in
       rw (eq-eqb p (length ts / chunk) z, le-ltb p (length ts / chunk) (omega (arith, z))) (record { out_to = w.0; out_held = w.1; err-to = i.0; err-held = i.1 }, refl)
 
-  pub mid_part : (n : ℕ) (r : Came) (x : List ℕ) → n ≡ length ts → (p ≡ n / chunk → ⊥)
-      → Is (lay_all d from (map (record_line g) (take chunk (drop (chunk * p) ts)))) r x → SaidFrom g p ts last errs d from f r x (To 0) f (ltb p (n / chunk))
+  pub mid_part : (n : ℕ) (r : Option ℕ) (x : List ℕ) → n ≡ length ts → (p ≡ n / chunk → ⊥)
+      → Is (lay_all d from (map (record_line g) (take chunk (drop (chunk * p) ts)))) r x → SaidFrom g p ts last errs d from f r x (Some 0) f (ltb p (n / chunk))
   unfolding lay_all only_in part_lines
   mid_part n r x k h a =
       let z : p ≡ length ts / chunk → ⊥ = λ e. h (e ∙ ap (λ (m : ℕ). m / chunk) (sym k)) in
       rw (ne_eqb p (length ts / chunk) z, append-nil (map (record_line g) (take chunk (drop (chunk * p) ts)))) (record { out_to = a.0; out_held = a.1; err-to = refl; err-held = refl }, ap (λ (m : ℕ). ltb p (m / chunk)) k)
 
   -- a listing with no records has one part
-  pub only_part : (r : Came) (x : List ℕ) (q : Came) (y : List ℕ) → ts ≡ [] → p ≡ 0 → Is (lay d from last) r x → Is (lay_all f (To 0) errs) q y
+  pub only_part : (r : Option ℕ) (x : List ℕ) (q : Option ℕ) (y : List ℕ) → ts ≡ [] → p ≡ 0 → Is (lay d from last) r x → Is (lay_all f (Some 0) errs) q y
       → SaidFrom g p ts last errs d from f r x q y false
   unfolding lay_all only_in part_lines
   only_part r x q y k h b i = rw (k, h) (record { out_to = b.0; out_held = b.1; err-to = i.0; err-held = i.1 }, refl)
 
-  pub no_part : ts ≡ [] → (p ≡ 0 → ⊥) → SaidFrom g p ts last errs d from f from d (To 0) f false
+  pub no_part : ts ≡ [] → (p ≡ 0 → ⊥) → SaidFrom g p ts last errs d from f from d (Some 0) f false
   unfolding lay_all only_in part_lines
   no_part k h =
       rw (k, drop-nil {A = Token} (chunk * p), ne_eqb p 0 h, le-ltb p 0 (omega arith)) (record { out_to = refl; out_held = refl; err-to = refl; err-held = refl }, refl)
@@ -267,12 +264,12 @@ head-is headed p name = go headed (eqb p 0)
     go false true = refl
     go false false = refl
 
-pub head-on : (g : Group) (headed : Bool) (name : List ℕ) (p : ℕ) (ts : List Token) (last : List ℕ) (errs : List (List ℕ)) (d : List ℕ) (c : Came) (e f : List ℕ) (r : Came) (x : List ℕ) (q : Came) (y : List ℕ) (m : Bool)
-    → Is (lay_all d (To 0) (header_lines (headed && eqb p 0) name)) c e → SaidFrom g p ts last errs e c f r x q y m
-    → Left (lay_all d (To 0) (only_in 0 p (header_lines headed name) ++ part_lines g p ts last)) (lay_all f (To 0) (only_in (last_part ts) p errs)) r x q y × (m ≡ ltb p (last_part ts))
+pub head-on : (g : Group) (headed : Bool) (name : List ℕ) (p : ℕ) (ts : List Token) (last : List ℕ) (errs : List (List ℕ)) (d : List ℕ) (c : Option ℕ) (e f : List ℕ) (r : Option ℕ) (x : List ℕ) (q : Option ℕ) (y : List ℕ) (m : Bool)
+    → Is (lay_all d (Some 0) (header_lines (headed && eqb p 0) name)) c e → SaidFrom g p ts last errs e c f r x q y m
+    → Left (lay_all d (Some 0) (only_in 0 p (header_lines headed name) ++ part_lines g p ts last)) (lay_all f (Some 0) (only_in (last_part ts) p errs)) r x q y × (m ≡ ltb p (last_part ts))
 head-on g headed name p ts last errs d c e f r x q y m h s =
     let l = s.0 in
-    let w = lay-more d (To 0) (only_in 0 p (header_lines headed name)) (part_lines g p ts last) c e r x (rw (head-is headed p name) at h) (l.out_to, l.out_held) in
+    let w = lay-more d (Some 0) (only_in 0 p (header_lines headed name)) (part_lines g p ts last) c e r x (rw (head-is headed p name) at h) (l.out_to, l.out_held) in
     (record { out_to = w.0; out_held = w.1; err-to = l.err-to; err-held = l.err-held }, s.1)
 
 -- ---- a run's lines: the records and then the last line
@@ -310,26 +307,26 @@ module _ (rd : Reading) (g : Group) (s old recs : List ℕ) (ran : Ran) (is : ra
   chunk_of : (p : ℕ) → chunk_lines g p ran.stored recs ≡ map (record_line g) (take chunk (drop (chunk * p) (run_tokens rd s)))
   chunk_of p = chunk_are g p (run_tokens rd s) old recs ran.stored stored count
 
-  module _ (p : ℕ) (errs : List (List ℕ)) (d : List ℕ) (from : Came) (f : List ℕ) where
-    pub run-last : (c : Came) (e : List ℕ) (r : Came) (x : List ℕ) (q : Came) (y : List ℕ) → p ≡ ran.stored / chunk
-        → Is (lay_all d from (chunk_lines g p ran.stored recs)) c e → Is (lay e c (ran_line g ran)) r x → Is (lay_all f (To 0) errs) q y
+  module _ (p : ℕ) (errs : List (List ℕ)) (d : List ℕ) (from : Option ℕ) (f : List ℕ) where
+    pub run-last : (c : Option ℕ) (e : List ℕ) (r : Option ℕ) (x : List ℕ) (q : Option ℕ) (y : List ℕ) → p ≡ ran.stored / chunk
+        → Is (lay_all d from (chunk_lines g p ran.stored recs)) c e → Is (lay e c (ran_line g ran)) r x → Is (lay_all f (Some 0) errs) q y
         → SaidFrom g p (run_tokens rd s) (run_last rd g s) errs d from f r x q y false
     run-last c e r x q y h a b k = end-part g p (run_tokens rd s) (run_last rd g s) errs d from f ran.stored c e r x q y count h (rw (chunk_of p) at a) (rw is at b) k
 
-    pub run_mid : (r : Came) (x : List ℕ) → (p ≡ ran.stored / chunk → ⊥) → Is (lay_all d from (chunk_lines g p ran.stored recs)) r x
-        → SaidFrom g p (run_tokens rd s) (run_last rd g s) errs d from f r x (To 0) f (ltb p (ran.stored / chunk))
+    pub run_mid : (r : Option ℕ) (x : List ℕ) → (p ≡ ran.stored / chunk → ⊥) → Is (lay_all d from (chunk_lines g p ran.stored recs)) r x
+        → SaidFrom g p (run_tokens rd s) (run_last rd g s) errs d from f r x (Some 0) f (ltb p (ran.stored / chunk))
     run_mid r x h a = mid_part g p (run_tokens rd s) (run_last rd g s) errs d from f ran.stored r x count h (rw (chunk_of p) at a)
 
 -- ---- the command `list`
-module _ (rd : Reading) (g : Group) (headed : Bool) (name s : List ℕ) (p : ℕ) (d : List ℕ) (c : Came) (e f : List ℕ) (r : Came) (x : List ℕ) (q : Came) (y : List ℕ) (m : Bool)
-    (h : Is (lay_all d (To 0) (header_lines (headed && eqb p 0) name)) c e) where
+module _ (rd : Reading) (g : Group) (headed : Bool) (name s : List ℕ) (p : ℕ) (d : List ℕ) (c : Option ℕ) (e f : List ℕ) (r : Option ℕ) (x : List ℕ) (q : Option ℕ) (y : List ℕ) (m : Bool)
+    (h : Is (lay_all d (Some 0) (header_lines (headed && eqb p 0) name)) c e) where
   pub list_long : text_limit < length s → SaidFrom g p [] (error_line (code_number TooLong) 0 0) (limit_lines name text_limit) e c f r x q y m
-      → Left (lay_all d (To 0) (list_part rd g p headed name s)) (lay_all f (To 0) (list_part_err rd p name s)) r x q y × (m ≡ list_more rd p s)
+      → Left (lay_all d (Some 0) (list_part rd g p headed name s)) (lay_all f (Some 0) (list_part_err rd p name s)) r x q y × (m ≡ list_more rd p s)
   unfolding list_err list_last list_more list_part list_part_err list_tokens
   list_long l k = rw (lt-ltb text_limit (length s) l) (head-on g headed name p [] (error_line (code_number TooLong) 0 0) (limit_lines name text_limit) d c e f r x q y m h k)
 
   pub list_run : length s ≤ text_limit → SaidFrom g p (run_tokens rd s) (run_last rd g s) (people_lines name s (ran_of s 0 highest room (start_in rd)).how) e c f r x q y m
-      → Left (lay_all d (To 0) (list_part rd g p headed name s)) (lay_all f (To 0) (list_part_err rd p name s)) r x q y × (m ≡ list_more rd p s)
+      → Left (lay_all d (Some 0) (list_part rd g p headed name s)) (lay_all f (Some 0) (list_part_err rd p name s)) r x q y × (m ≡ list_more rd p s)
   unfolding list_err list_last list_more list_part list_part_err list_tokens
   list_run l k = rw (le-ltb text_limit (length s) l) (head-on g headed name p (run_tokens rd s) (run_last rd g s) (people_lines name s (ran_of s 0 highest room (start_in rd)).how) d c e f r x q y m h k)
 

@@ -1,5 +1,5 @@
 -- What the command `list` says: the lines for standard output and, for people, for standard error.
-use Rattle.std.specs.Prelude.{ℕ, zero, suc, ◌+◌, Bool, cond, List, [], ◌∷◌, ◌++◌, map, ◌≡◌, ltb, drop, get_or, length}
+use Rattle.std.specs.Prelude.{ℕ, zero, suc, ◌+◌, Bool, cond, List, [], ◌∷◌, ◌++◌, map, ◌≡◌, ltb, drop, get_or, length, Option}
 use Rattle.record.specs.Numbers.{code_number, kind_number}
 use Rattle.record.specs.Records.{told_number}
 use Rattle.record.specs.declared.Code.TheVariants.{TooLong}
@@ -16,7 +16,6 @@ use Rattle.run.specs.declared.Group.TheVariants.{Five, Nine}
 use Rattle.run.specs.declared.Ran.{Ran}
 use Rattle.place.specs.Place.{line_column}
 use Rattle.text.specs.Lay.{Laid}
-use Rattle.text.specs.declared.Came.{Came}
 use Rattle.text.specs.Lines.{depth_line, end_depth_line, end_line, error_line, header_line, limit_line, people_line, token_line}
 
 -- 01: "The listing program reads standard input up to 32,768 bytes (more: 12)."
@@ -75,7 +74,7 @@ unfoldable pub limit_lines : List ℕ → ℕ → List (List ℕ)
 limit_lines name limit = name ∷ limit_line (code_number TooLong) limit ∷ []
 
 -- what a command leaves: for each output how far its bytes came, and what its buffer holds
-pub record Left (out err : Laid) (to : Came) (held : List ℕ) (to' : Came) (held' : List ℕ) : Type 0 where
+pub record Left (out err : Laid) (to : Option ℕ) (held : List ℕ) (to' : Option ℕ) (held' : List ℕ) : Type 0 where
   pub out_to : to ≡ out.to
   pub out_held : held ≡ out.held
   pub err-to : to' ≡ err.to

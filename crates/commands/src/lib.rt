@@ -6,7 +6,6 @@ ghost use Rattle.std.specs.Prelude.{◌≡◌, ◌+◌, ◌*◌, ◌≤◌, ◌<
 ghost use Rattle.record.specs.Numbers.{code_number};
 ghost use Rattle.record.specs.Records.{over};
 ghost use Rattle.text.specs.Lay.{lay, lay_all};
-ghost use Rattle.text.specs.declared.Came.TheVariants.{To};
 ghost use Rattle.reading.specs.Answers.{start_in};
 ghost use Rattle.run.specs.Checked.{ran_of};
 ghost use Rattle.run.specs.Numbers.{groups, size_of};
@@ -16,7 +15,6 @@ ghost use Rattle.commands.specs.Parts.{chunk_lines, held_lines, last_part, list_
 use reading::Outcome;
 use record::{Code, Reading, Refusal};
 use run::{Group, Ran};
-use text::Came;
 
 // 01: "reads standard input up to 32,768 bytes"
 pub const TEXT_LIMIT: usize = 32768;
@@ -27,14 +25,16 @@ pub const HIGHEST: u64 = 18446744073709551615;
 // How far the bytes for the two outputs came, and whether a part follows: a listing is said in parts.
 #[derive(Clone, Copy)]
 pub struct Said {
-    pub out: Came,
-    pub err: Came,
+    pub out: Option<usize>,
+    pub err: Option<usize>,
+    // a field of its own: `list` and `files::unpack` promise `result.more`, whatever came
     pub more: bool,
 }
 
 // So many records stand in a part of a listing.
 pub const CHUNK: usize = 8192;
 
+// A function, since its clause names code_number, and a From<Code> could stand only in `record`.
 pub fn number_of(code: Code) -> u64
     ensures { result ≡ code_number code }
 {
@@ -49,7 +49,13 @@ fn blank() -> [u64; 294912]
 }
 
 // The line of the record whose numbers stand from p on: of five 01's, of nine with the depths.
-fn record_onto(out: &mut [u8], from: Came, records: &[u64], group: Group, p: usize) -> Came
+fn record_onto(
+    out: &mut [u8],
+    from: Option<usize>,
+    records: &[u64],
+    group: Group,
+    p: usize,
+) -> Option<usize>
     requires { p + size_of group ≤ length records.now }
     ensures { (result ≡ (lay out.old from (number_line group (drop p records.now))).to) × (out.new ≡ (lay out.old from (number_line group (drop p records.now))).held) }
 {
@@ -68,16 +74,20 @@ fn record_onto(out: &mut [u8], from: Came, records: &[u64], group: Group, p: usi
 }
 
 // The lines of count records, each a group of numbers.
-fn records_onto(out: &mut [u8], from: Came, records: &[u64], group: Group, count: usize) -> Came
+fn records_onto(
+    out: &mut [u8],
+    from: Option<usize>,
+    records: &[u64],
+    group: Group,
+    count: usize,
+) -> Option<usize>
     requires { size_of group * count ≤ length records.now }
     ensures { (result ≡ (lay_all out.old from (number_lines group count records.now)).to) × (out.new ≡ (lay_all out.old from (number_lines group count records.now)).held) }
 {
     let size = run::group_size(group);
     let mut came = from;
-    let mut i: usize = 0;
-    while i < count {
+    for i in 0..count {
         came = record_onto(out, came, records, group, size * i);
-        i += 1;
     }
     came
 }
@@ -85,12 +95,12 @@ fn records_onto(out: &mut [u8], from: Came, records: &[u64], group: Group, count
 // The lines of a part's records, of count.
 fn chunk_onto(
     out: &mut [u8],
-    from: Came,
+    from: Option<usize>,
     records: &[u64],
     group: Group,
     count: usize,
     part: usize,
-) -> Came
+) -> Option<usize>
     requires { size_of group * count ≤ length records.now }
     ensures { (result ≡ (lay_all out.old from (chunk_lines group part count records.now)).to) × (out.new ≡ (lay_all out.old from (chunk_lines group part count records.now)).held) }
 {
@@ -109,12 +119,12 @@ fn chunk_onto(
 // The same for numbers that a caller has: no lines where there are fewer than the records take.
 pub fn part_onto(
     out: &mut [u8],
-    from: Came,
+    from: Option<usize>,
     records: &[u64],
     group: Group,
     count: usize,
     part: usize,
-) -> Came
+) -> Option<usize>
     ensures { (result ≡ (lay_all out.old from (held_lines group part count records.now)).to) × (out.new ≡ (lay_all out.old from (held_lines group part count records.now)).held) }
 {
     if records.len() / run::group_size(group) < count {
@@ -124,7 +134,13 @@ pub fn part_onto(
 }
 
 // The last line of a listing that reached the end.
-fn final_onto(out: &mut [u8], from: Came, group: Group, advances: u64, depth: u64) -> Came
+fn final_onto(
+    out: &mut [u8],
+    from: Option<usize>,
+    group: Group,
+    advances: u64,
+    depth: u64,
+) -> Option<usize>
     ensures { (result ≡ (lay out.old from (final_line group advances depth)).to) × (out.new ≡ (lay out.old from (final_line group advances depth)).held) }
 {
     match group {
@@ -134,7 +150,7 @@ fn final_onto(out: &mut [u8], from: Came, group: Group, advances: u64, depth: u6
 }
 
 // The last line of a listing.
-fn last_onto(out: &mut [u8], from: Came, group: Group, ran: Ran) -> Came
+fn last_onto(out: &mut [u8], from: Option<usize>, group: Group, ran: Ran) -> Option<usize>
     ensures { (result ≡ (lay out.old from (ran_line group ran)).to) × (out.new ≡ (lay out.old from (ran_line group ran)).held) }
 {
     let how = ran.how;
@@ -149,7 +165,13 @@ fn last_onto(out: &mut [u8], from: Came, group: Group, ran: Ran) -> Came
 }
 
 // For people: where a text is refused, and why.
-pub fn refused_onto(err: &mut [u8], from: Came, name: &[u8], text: &[u8], r: Refusal) -> Came
+pub fn refused_onto(
+    err: &mut [u8],
+    from: Option<usize>,
+    name: &[u8],
+    text: &[u8],
+    r: Refusal,
+) -> Option<usize>
     ensures { (result ≡ (lay_all err.old from (refused_lines name.now text.now r)).to) × (err.new ≡ (lay_all err.old from (refused_lines name.now text.now r)).held) }
 {
     let code = r.code;
@@ -158,7 +180,13 @@ pub fn refused_onto(err: &mut [u8], from: Came, name: &[u8], text: &[u8], r: Ref
     text::people_line(err, named, at.line + 1, at.column + 1, number_of(code))
 }
 
-fn people_onto(err: &mut [u8], from: Came, name: &[u8], text: &[u8], how: Outcome) -> Came
+fn people_onto(
+    err: &mut [u8],
+    from: Option<usize>,
+    name: &[u8],
+    text: &[u8],
+    how: Outcome,
+) -> Option<usize>
     ensures { (result ≡ (lay_all err.old from (people_lines name.now text.now how)).to) × (err.new ≡ (lay_all err.old from (people_lines name.now text.now how)).held) }
 {
     match how {
@@ -169,7 +197,7 @@ fn people_onto(err: &mut [u8], from: Came, name: &[u8], text: &[u8], how: Outcom
 }
 
 // For people: a file is longer than the limit.
-pub fn limit_onto(err: &mut [u8], from: Came, name: &[u8], limit: u64) -> Came
+pub fn limit_onto(err: &mut [u8], from: Option<usize>, name: &[u8], limit: u64) -> Option<usize>
     ensures { (result ≡ (lay_all err.old from (limit_lines name.now limit)).to) × (err.new ≡ (lay_all err.old from (limit_lines name.now limit)).held) }
 {
     let named = text::put(err, from, name);
@@ -177,7 +205,7 @@ pub fn limit_onto(err: &mut [u8], from: Came, name: &[u8], limit: u64) -> Came
 }
 
 // The line that tells whose listing follows, where several files are listed.
-pub fn header_onto(out: &mut [u8], from: Came, headed: bool, name: &[u8]) -> Came
+pub fn header_onto(out: &mut [u8], from: Option<usize>, headed: bool, name: &[u8]) -> Option<usize>
     ensures { (result ≡ (lay_all out.old from (header_lines headed name.now)).to) × (out.new ≡ (lay_all out.old from (header_lines headed name.now)).held) }
 {
     if headed {
@@ -204,12 +232,12 @@ fn run_onto(
     rd: Reading,
     group: Group,
     out: &mut [u8],
-    from: Came,
+    from: Option<usize>,
     err: &mut [u8],
     name: &[u8],
     text: &[u8],
 ) -> Said
-    ensures { Left (lay_all out.old from (part_lines group part (run_tokens rd text.now) (run_last rd group text.now))) (lay_all err.old (To 0) (only_in (last_part (run_tokens rd text.now)) part (people_lines name.now text.now (ran_of text.now 0 highest room (start_in rd)).how))) result.out out.new result.err err.new × (result.more ≡ ltb part (last_part (run_tokens rd text.now))) }
+    ensures { Left (lay_all out.old from (part_lines group part (run_tokens rd text.now) (run_last rd group text.now))) (lay_all err.old (Some 0) (only_in (last_part (run_tokens rd text.now)) part (people_lines name.now text.now (ran_of text.now 0 highest room (start_in rd)).how))) result.out out.new result.err err.new × (result.more ≡ ltb part (last_part (run_tokens rd text.now))) }
 {
     let mut records = blank();
     let ran = records_of(text, rd, &mut records, group);
@@ -218,7 +246,7 @@ fn run_onto(
     let lines = chunk_onto(out, from, &records, group, ran.stored, part);
     if part == last {
         let end = last_onto(out, lines, group, ran);
-        let people = people_onto(err, Came::To(0), name, text, how);
+        let people = people_onto(err, Some(0), name, text, how);
         return Said {
             out: end,
             err: people,
@@ -227,7 +255,7 @@ fn run_onto(
     }
     Said {
         out: lines,
-        err: Came::To(0),
+        err: Some(0),
         more: part < last,
     }
 }
@@ -244,13 +272,13 @@ pub fn list(
     out: &mut [u8],
     err: &mut [u8],
 ) -> Said
-    ensures { Left (lay_all out.old (To 0) (list_part rd group part headed name.now text.now)) (lay_all err.old (To 0) (list_part_err rd part name.now text.now)) result.out out.new result.err err.new × (result.more ≡ list_more rd part text.now) }
+    ensures { Left (lay_all out.old (Some 0) (list_part rd group part headed name.now text.now)) (lay_all err.old (Some 0) (list_part_err rd part name.now text.now)) result.out out.new result.err err.new × (result.more ≡ list_more rd part text.now) }
 {
-    let head = header_onto(out, Came::To(0), headed & (part == 0), name);
+    let head = header_onto(out, Some(0), headed & (part == 0), name);
     if TEXT_LIMIT < text.len() {
         if part == 0 {
             let line = text::error_line(out, head, number_of(Code::TooLong), 0, 0);
-            let people = limit_onto(err, Came::To(0), name, TEXT_LIMIT as u64);
+            let people = limit_onto(err, Some(0), name, TEXT_LIMIT as u64);
             return Said {
                 out: line,
                 err: people,
@@ -259,7 +287,7 @@ pub fn list(
         }
         return Said {
             out: head,
-            err: Came::To(0),
+            err: Some(0),
             more: false,
         };
     }

@@ -1,17 +1,16 @@
 -- WHICH CODES COME OUT of string expansion, by what specs/Codes.antt says of every refusal.
 use Prim.Native.Nat.{ℕ}
-use Rattle.std.specs.Prelude.{false, ◌≡◌}
+use Rattle.std.specs.Prelude.{false, ◌≡◌, Err}
 use mathlib.Core.List.{List}
 use Rattle.std.proofs.Math.Path.{refl}
 use Rattle.record.specs.Codes.{OneOf, among, each, none_of}
 use Rattle.record.specs.Numbers.{code_number}
 use Rattle.record.specs.declared.Refusal.{Refusal}
-use Rattle.escapes.specs.declared.Expanded.TheVariants.{Refused}
 use Rattle.escapes.specs.Answers.{applied}
 use Rattle.escapes.specs.Codes.{expand_codes, never_expand, applied-answers}
 
 -- THE THEOREMS
-module _ (s : List ℕ) (idx0 : ℕ) (d : List ℕ) (place : ℕ) (r : Refusal) (e : (applied s idx0 d place).answer ≡ Refused r) where
+module _ (s : List ℕ) (idx0 : ℕ) (d : List ℕ) (place : ℕ) (r : Refusal) (e : (applied s idx0 d place).answer ≡ Err r) where
   pub expand-codes : OneOf expand_codes r.code
   unfolding among
   expand-codes = rw e at (applied-answers (OneOf expand_codes) refl refl refl refl refl refl refl s idx0 d place)

@@ -1,24 +1,20 @@
 -- Laws of the tests and of the reading, as the functions' proofs use them.
+use Rattle.std.specs.Prelude.{Err}
 use mathlib.Core.Path.{◌≡◌, refl, sym, ap, ◌∙◌}
-use mathlib.Core.Bool.{Bool, true, false, ◌&&◌, ◌||◌}
+use mathlib.Core.Bool.{Bool, true, false, ◌||◌}
 use mathlib.Core.List.{List, [], ◌∷◌, ◌++◌, append_assoc, append-nil}
 use Prim.Native.Nat.{ℕ, suc, ◌+◌, ◌≤◌, ◌<◌}
 use native.Mathlib.Nat.{add-zero}
 use native.Mathlib.Numerals.{add-one}
 use native.Mathlib.Omega.{arith}
-use lib.Dec.{leb, eqb}
+use lib.Dec.{eqb}
 use lib.ListN.{length, get_or, take, drop, set, length-append, take-append-drop, drop_of_length-le}
 use lib.Seq.{drop-cons, drop-drop, drop-set-lt, take-suc-set}
 use borrow.Author.Tests.{leb-true}
 use Rattle.record.specs.declared.Refusal.{Refusal}
-use Rattle.escapes.specs.declared.Read.TheVariants.{Bad}
 use Rattle.escapes.specs.Escapes.{stands, Outcome, gives, refused, prepend, expand_from, expand, has_byte}
-use Rattle.escapes.specs.Laws.{both, Turn, rest, rest_byte, rest-bad, rest_end}
+use Rattle.escapes.specs.Laws.{Turn, rest, rest_byte, rest-bad, rest_end}
 use Rattle.escapes.specs.Passes.{fits, over}
-
--- the first half of a range's test
-pub from_range : (lo b : ℕ) (t : Bool) → leb lo b && t ≡ true → lo ≤ b
-from_range lo b t e = leb-true lo b (both (leb lo b) t e).0
 
 -- one more byte is looked at for a backslash
 or_assoc : (a b c : Bool) → a || (b || c) ≡ (a || b) || c
@@ -71,7 +67,7 @@ reach_byte {s} {idx0} {i} {n} {v} {w} {acc} r t =
     }
 
 pub reach-bad : {s : List ℕ} {idx0 i n : ℕ} {acc : List ℕ} (x : Refusal) → Reached s idx0 i n acc → i < length s
-    → stands (get_or s i 0) (drop (i + 1) s) (idx0 + i) ≡ Bad x → expand s idx0 ≡ refused x
+    → stands (get_or s i 0) (drop (i + 1) s) (idx0 + i) ≡ Err x → expand s idx0 ≡ refused x
 reach-bad {s} {idx0} {i} {n} {acc} x r l e = r.same ∙ rw (rest-bad s idx0 i x l e)
 
 -- what fits has room for each of its first parts

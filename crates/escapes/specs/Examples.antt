@@ -1,5 +1,5 @@
 -- 01's examples of expansion with idx0 0, and what the Rust does where 01 leaves room: a table, and one claim of all its rows.
-use Rattle.std.specs.Prelude.{ℕ, ◌≡◌, refl, List, [], ◌∷◌, ◌++◌, map}
+use Rattle.std.specs.Prelude.{ℕ, ◌≡◌, refl, List, [], ◌∷◌, ◌++◌, map, Result, Ok, Err}
 use Rattle.utf8.specs.Utf8.{low, high, lead, sight, chars_from, chars, width_of, reach}
 use Rattle.utf8.specs.Chars.{'backslash, 'n, 'newline, 't, 'tab, '0, 'nul, 'x, 'a}
 use Rattle.record.specs.declared.Code.{Code}
@@ -7,10 +7,10 @@ use Rattle.record.specs.declared.Code.TheVariants.{UnterminatedAsciiEscape, Unre
 use Rattle.record.specs.Records.{refusal}
 use Rattle.record.specs.Checks.{checks}
 use Rattle.escapes.specs.declared.Held.TheVariants.{Text, Buffer}
-use Rattle.escapes.specs.declared.Expanded.{Expanded}
-use Rattle.escapes.specs.declared.Expanded.TheVariants.{Part as APart, Refused}
 use Rattle.escapes.specs.Escapes.{'F, digit, ascii_escape, escape, stands, Outcome, gives, refused, expand_from, expand, has_byte}
 use Rattle.escapes.specs.Answers.{part, Done, expanded, applied}
+use Rattle.escapes.specs.declared.Part.{Part}
+use Rattle.record.specs.declared.Refusal.{Refusal}
 
 abbrev '4 : ℕ
 '4 = 52
@@ -53,18 +53,18 @@ examples = refl
 abbrev given : List ℕ
 given = 1 ∷ 2 ∷ 3 ∷ 4 ∷ []
 
-abbrev row : List ℕ → ℕ → Expanded → List ℕ → (List ℕ × ℕ) × Done
+abbrev row : List ℕ → ℕ → Result Part Refusal → List ℕ → (List ℕ × ℕ) × Done
 row s place a d = ((s, place), record { answer = a; buffer = d })
 
 unfoldable pub answers : List ((List ℕ × ℕ) × Done)
 answers =
     -- written in the middle; the text itself, wherever the place is
-    row ('backslash ∷ 't ∷ 'a ∷ []) 1 (APart (part Buffer 1 3)) (1 ∷ 'tab ∷ 'a ∷ 4 ∷ [])
-    ∷ row ('t ∷ 'a ∷ []) 9 (APart (part Text 0 2)) given
+    row ('backslash ∷ 't ∷ 'a ∷ []) 1 (Ok (part Buffer 1 3)) (1 ∷ 'tab ∷ 'a ∷ 4 ∷ [])
+    ∷ row ('t ∷ 'a ∷ []) 9 (Ok (part Text 0 2)) given
     -- no room, and a refusal that comes before it; a text that is not UTF-8
-    ∷ row ('backslash ∷ 't ∷ 'a ∷ []) 3 (Refused (refusal NoRoom 7)) given
-    ∷ row ('backslash ∷ 't ∷ 'backslash ∷ 'q ∷ []) 9 (Refused (refusal UnrecognizedEscape 10)) given
-    ∷ row ('backslash ∷ 'q ∷ 0xC3 ∷ []) 0 (Refused (refusal NotUtf8 9)) given
+    ∷ row ('backslash ∷ 't ∷ 'a ∷ []) 3 (Err (refusal NoRoom 7)) given
+    ∷ row ('backslash ∷ 't ∷ 'backslash ∷ 'q ∷ []) 9 (Err (refusal UnrecognizedEscape 10)) given
+    ∷ row ('backslash ∷ 'q ∷ 0xC3 ∷ []) 0 (Err (refusal NotUtf8 9)) given
     ∷ []
 
 pub answered :

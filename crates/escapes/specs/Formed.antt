@@ -1,63 +1,59 @@
 -- Why an expansion is well formed: its text is, a character that is copied stays whole, and an escape stands for ASCII.
-use Rattle.std.specs.Prelude.{◌≡◌, Bool, true, false, cond, ◌&&◌, List, [], ◌∷◌, ◌++◌, ℕ, zero, suc, ◌+◌, ◌-◌, ◌*◌, ◌≤◌, ◌<◌, ltb, leb, eqb, length, get_or, take, drop}
+use Rattle.std.specs.Prelude.{Ok, Err, Option, Some, None, ◌≡◌, Bool, true, false, cond, ◌&&◌, List, [], ◌∷◌, ◌++◌, ℕ, zero, suc, ◌+◌, ◌-◌, ◌*◌, ◌≤◌, ◌<◌, ltb, leb, eqb, length, get_or, take, drop}
 use Rattle.std.proofs.Math.Path.{refl}
 use Rattle.std.proofs.Common.{sym, ap, ◌∙◌, add-zero, arith, length-append, length-take-le, drop_at, get_or-take, eqb-true, ne_eqb, lt-ltb, ltb-true, leb-true}
 use Rattle.std.proofs.Math.ListN.{get_or-append}
-use Rattle.utf8.specs.declared.Sight.{Sight}
-use Rattle.utf8.specs.declared.Sight.TheVariants.{Char, End}
 use Rattle.utf8.specs.Utf8.{low, high, code2, code3, code4, lead, sight, sight_at, chars, chars_from, width_of, reach}
 use Rattle.utf8.specs.Picks.{by_test, tests}
 use Rattle.utf8.specs.Chars.{'backslash, 'x, '0, 'a, 'f}
 use Rattle.utf8.proofs.Laws.{seen}
 use Rattle.utf8.specs.Laws.{Seen, ended, sight_in, sight_ascii, reach_step, reach-end, Whole, whole-step}
 use Rattle.record.specs.declared.Refusal.{Refusal}
-use Rattle.escapes.specs.declared.Read.{Read}
-use Rattle.escapes.specs.declared.Read.TheVariants.{Byte, Bad}
-use Rattle.escapes.specs.Escapes.{'9, 'A, 'F, digit, octal, hexadecimal, ascii_escape, escape, stands, Outcome, gives, refused, prepend}
+use Rattle.escapes.specs.Escapes.{Read, '9, 'A, 'F, digit, octal, hexadecimal, ascii_escape, escape, stands, Outcome, gives, refused, prepend}
 use Rattle.escapes.specs.Characters.{spell_from}
-use Rattle.escapes.specs.Laws.{both, Turn, turn, rest, rest_byte, rest-bad, rest_end, cons-at}
+use Rattle.escapes.specs.Laws.{both, same_some, Turn, turn, rest, rest_byte, rest-bad, rest_end, cons-at}
 
 -- a character is seen by its own bytes alone
-record Near (o : Sight) (k w : ℕ) (x : Sight) : Type 0 where
-  is : x ≡ Char k w → o ≡ Char k w
+record Near (o : Option (ℕ × ℕ)) (k w : ℕ) (x : Option (ℕ × ℕ)) : Type 0 where
+  is : x ≡ Some (k, w) → o ≡ Some (k, w)
 
-near_test : (o : Sight) (k w : ℕ) (t : Bool) (x y : Sight) → (t ≡ true → Near o k w x) → (t ≡ false → Near o k w y) → Near o k w (cond t x y)
+near_test : (o : Option (ℕ × ℕ)) (k w : ℕ) (t : Bool) (x y : Option (ℕ × ℕ)) → (t ≡ true → Near o k w x) → (t ≡ false → Near o k w y) → Near o k w (cond t x y)
 near_test o k w t x y f g = by_test (Near o k w) t x y f g
 
-near_end : (o : Sight) (k w : ℕ) → Near o k w End
+near_end : (o : Option (ℕ × ℕ)) (k w : ℕ) → Near o k w None
 near_end o k w = record { is = λ e. cc }
 
 module _ (l h a b c d b' c' d' k w : ℕ) (p : 2 ≤ w → b ≡ b') (q : 3 ≤ w → c ≡ c') (r : 4 ≤ w → d ≡ d') where
-  near_1 : ltb a 0x80 ≡ true → Near (lead l h a b' c' d') k w (Char a 1)
+  near_1 : ltb a 0x80 ≡ true → Near (lead l h a b' c' d') k w (Some (a, 1))
   unfolding lead
   near_1 t = record { is = λ e. simp t e }
 
   module _ (t1 : ltb a 0x80 ≡ false) (t2 : ltb a 0xC2 ≡ false) (t3 : ltb b l ≡ false) (t4 : ltb h b ≡ false) where
-    near_2 : ltb a 0xE0 ≡ true → Near (lead l h a b' c' d') k w (Char (code2 a b) 2)
+    near_2 : ltb a 0xE0 ≡ true → Near (lead l h a b' c' d') k w (Some (code2 a b, 2))
     unfolding lead
     near_2 t5 =
         record {
           is = λ e.
-              let m : 2 ≡ w = cc in
+              let m : 2 ≡ w = (same_some _ _ _ _ e).1 in
               rw (← (p (omega arith))) (simp (t1, t2, t3, t4, t5) e);
         }
 
     module _ (t5 : ltb a 0xE0 ≡ false) (t6 : ltb c 0x80 ≡ false) (t7 : ltb 0xBF c ≡ false) where
-      near_3 : ltb a 0xF0 ≡ true → Near (lead l h a b' c' d') k w (Char (code3 a b c) 3)
+      near_3 : ltb a 0xF0 ≡ true → Near (lead l h a b' c' d') k w (Some (code3 a b c, 3))
       unfolding lead
       near_3 t8 =
           record {
             is = λ e.
-                let m : 3 ≡ w = cc in
+                let m : 3 ≡ w = (same_some _ _ _ _ e).1 in
                 rw (← (p (omega arith)), ← (q (omega arith))) (simp (t1, t2, t3, t4, t5, t6, t7, t8) e);
           }
 
-      near_4 : ltb a 0xF0 ≡ false → ltb d 0x80 ≡ false → ltb 0xBF d ≡ false → ltb a 0xF5 ≡ true → Near (lead l h a b' c' d') k w (Char (code4 a b c d) 4)
+      near_4 : ltb a 0xF0 ≡ false → ltb d 0x80 ≡ false → ltb 0xBF d ≡ false → ltb a 0xF5 ≡ true → Near (lead l h a b' c' d') k w (Some (code4 a b c d, 4))
       unfolding lead
       near_4 t8 t9 t10 t11 =
           record {
             is = λ e.
-                let m : 4 ≡ w = cc in
+                let m : 4 ≡ w = (same_some _ _ _ _ e).1 in
                 rw (← (p (omega arith)), ← (q (omega arith)), ← (r (omega arith)))
                 (simp (t1, t2, t3, t4, t5, t6, t7, t8, t9, t10, t11) e);
           }
@@ -72,12 +68,12 @@ inner v s t j m h =
     sym (get_or-append (take v s) t 0 j (omega arith) ∙ get_or-take v s j 0 h)
 
 -- so it stays the same before any other bytes
-pub front : (x t : List ℕ) (k w : ℕ) → sight x ≡ Char k w → sight (take w x ++ t) ≡ Char k w
+pub front : (x t : List ℕ) (k w : ℕ) → sight x ≡ Some (k, w) → sight (take w x ++ t) ≡ Some (k, w)
 unfolding sight sight_at
 front [] t k w e = cc
 front (a ∷ s) t k w e = go w e (seen (a ∷ s) 0 k w e)
   where
-    go : (w : ℕ) → sight (a ∷ s) ≡ Char k w → Seen (a ∷ s) 0 k w → sight (take w (a ∷ s) ++ t) ≡ Char k w
+    go : (w : ℕ) → sight (a ∷ s) ≡ Some (k, w) → Seen (a ∷ s) 0 k w → sight (take w (a ∷ s) ++ t) ≡ Some (k, w)
     go zero e h = absurd (omega (arith, h.moves))
     go (suc v) e h =
         let m : v ≤ length s = omega (arith, h.room) in
@@ -95,7 +91,7 @@ reach_shift (c ∷ cs) n at =
     ap (reach cs) e ∙ reach_shift cs n (at + width_of c)
 
 -- a character before a well_formed_lem list
-whole_char : (x l : List ℕ) (k w : ℕ) → sight x ≡ Char k w → Whole l 0 → Whole (take w x ++ l) 0
+whole_char : (x l : List ℕ) (k w : ℕ) → sight x ≡ Some (k, w) → Whole l 0 → Whole (take w x ++ l) 0
 unfolding sight_at
 whole_char x l k w e o =
     let h : Seen x 0 k w = seen x 0 k w e in
@@ -116,8 +112,8 @@ unfolding sight_at
 whole_ascii v l h o = whole_char (v ∷ []) l v 1 (sym (sight_ascii (v ∷ []) 0 (omega arith) h)) o
 
 -- the bytes of a character after its first are 128 or more
-record Tails (b c d : ℕ) (x : Sight) : Type 0 where
-  is : (k w : ℕ) → x ≡ Char k w → (w ≤ 4) × (2 ≤ w → 128 ≤ b) × (3 ≤ w → 128 ≤ c) × (4 ≤ w → 128 ≤ d)
+record Tails (b c d : ℕ) (x : Option (ℕ × ℕ)) : Type 0 where
+  is : (k w : ℕ) → x ≡ Some (k, w) → (w ≤ 4) × (2 ≤ w → 128 ≤ b) × (3 ≤ w → 128 ≤ c) × (4 ≤ w → 128 ≤ d)
 
 low_least : (a : ℕ) → 0x80 ≤ low a
 unfolding low
@@ -126,28 +122,28 @@ low_least a =
     (λ t. by_test (λ (l : ℕ). 0x80 ≤ l) (eqb a 0xF0) 0x90 0x80 (λ u. omega arith) (λ u. omega arith))
 
 module _ (b c d : ℕ) where
-  tails_test : (t : Bool) (x y : Sight) → (t ≡ true → Tails b c d x) → (t ≡ false → Tails b c d y) → Tails b c d (cond t x y)
+  tails_test : (t : Bool) (x y : Option (ℕ × ℕ)) → (t ≡ true → Tails b c d x) → (t ≡ false → Tails b c d y) → Tails b c d (cond t x y)
   tails_test t x y f g = by_test (Tails b c d) t x y f g
 
-  tails_end : Tails b c d End
+  tails_end : Tails b c d None
   tails_end = record { is = λ k w e. let z : ◌≡◌ {A = ℕ} 0 1 = cc in absurd (omega arith) }
 
-  tails_1 : (a : ℕ) → Tails b c d (Char a 1)
-  tails_1 a = record { is = λ k w e. let m : 1 ≡ w = cc in (omega arith, λ g. omega arith, λ g. omega arith, λ g. omega arith) }
+  tails_1 : (a : ℕ) → Tails b c d (Some (a, 1))
+  tails_1 a = record { is = λ k w e. let m : 1 ≡ w = (same_some _ _ _ _ e).1 in (omega arith, λ g. omega arith, λ g. omega arith, λ g. omega arith) }
 
   module _ (a : ℕ) (t3 : ltb b (low a) ≡ false) where
-    tails_2 : (m : ℕ) → Tails b c d (Char m 2)
+    tails_2 : (m : ℕ) → Tails b c d (Some (m, 2))
     tails_2 n =
-        record { is = λ k w e. let m : 2 ≡ w = cc in (omega arith, λ g. omega (tests, low_least a), λ g. omega arith, λ g. omega arith) }
+        record { is = λ k w e. let m : 2 ≡ w = (same_some _ _ _ _ e).1 in (omega arith, λ g. omega (tests, low_least a), λ g. omega arith, λ g. omega arith) }
 
     module _ (t6 : ltb c 0x80 ≡ false) where
-      tails_3 : (m : ℕ) → Tails b c d (Char m 3)
+      tails_3 : (m : ℕ) → Tails b c d (Some (m, 3))
       tails_3 n =
-          record { is = λ k w e. let m : 3 ≡ w = cc in (omega arith, λ g. omega (tests, low_least a), λ g. omega tests, λ g. omega arith) }
+          record { is = λ k w e. let m : 3 ≡ w = (same_some _ _ _ _ e).1 in (omega arith, λ g. omega (tests, low_least a), λ g. omega tests, λ g. omega arith) }
 
-      tails_4 : (m : ℕ) → ltb d 0x80 ≡ false → Tails b c d (Char m 4)
+      tails_4 : (m : ℕ) → ltb d 0x80 ≡ false → Tails b c d (Some (m, 4))
       tails_4 n t9 =
-          record { is = λ k w e. let m : 4 ≡ w = cc in (omega arith, λ g. omega (tests, low_least a), λ g. omega tests, λ g. omega tests) }
+          record { is = λ k w e. let m : 4 ≡ w = (same_some _ _ _ _ e).1 in (omega arith, λ g. omega (tests, low_least a), λ g. omega tests, λ g. omega tests) }
 
   tails : (a : ℕ) → Tails b c d (lead (low a) (high a) a b c d)
   unfolding lead
@@ -163,7 +159,7 @@ plain-next s i m p j h = let g : i + 1 + j ≡ i + suc j = omega arith in rw g (
 high_byte : (b : ℕ) → 128 ≤ b → eqb b 'backslash ≡ false
 high_byte b h = ne_eqb b 'backslash (λ (z : b ≡ 'backslash). omega arith)
 
-pub plain_char : (s : List ℕ) (i k w : ℕ) → i < length s → sight_at s i ≡ Char k w → eqb (get_or s i 0) 'backslash ≡ false → Plain s i w
+pub plain_char : (s : List ℕ) (i k w : ℕ) → i < length s → sight_at s i ≡ Some (k, w) → eqb (get_or s i 0) 'backslash ≡ false → Plain s i w
 plain_char s i k w l e f j m =
     let t = (tails (get_or s (i + 1) 0) (get_or s (i + 2) 0) (get_or s (i + 3) 0) (get_or s i 0)).is k w (sym (sight_in s i l) ∙ e) in
     go j m t.0 t.1 t.2 t.3
@@ -212,8 +208,8 @@ Passes_1 s j = (k at : ℕ) → spell_from (suc k) (chars (drop j s)) at ≡ spe
 
 -- what an escape is read as, its backslash just before j: ASCII, and the text goes on from a boundary
 abbrev pub LandsIn : List ℕ → ℕ → Read → Type 0
-LandsIn s j (Byte v w) = (v < 128) × (j + w ≤ length s + 1) × Whole s (j + w - 1) × Passes s j (w - 1)
-LandsIn s j (Bad r) = Unit {0}
+LandsIn s j (Ok (v, w)) = (v < 128) × (j + w ≤ length s + 1) × Whole s (j + w - 1) × Passes s j (w - 1)
+LandsIn s j (Err r) = Unit {0}
 
 pub record Lands (s : List ℕ) (j : ℕ) (x : Read) : Type 0 where
   pub is : LandsIn s j x
@@ -221,7 +217,7 @@ pub record Lands (s : List ℕ) (j : ℕ) (x : Read) : Type 0 where
 lands_test : (s : List ℕ) (j : ℕ) (t : Bool) (x y : Read) → (t ≡ true → Lands s j x) → (t ≡ false → Lands s j y) → Lands s j (cond t x y)
 lands_test s j t x y f g = by_test (Lands s j) t x y f g
 
-lands_bad : (s : List ℕ) (j : ℕ) (r : Refusal) → Lands s j (Bad r)
+lands_bad : (s : List ℕ) (j : ℕ) (r : Refusal) → Lands s j (Err r)
 lands_bad s j r = record { is = tt }
 
 -- an ASCII character is one byte wide
@@ -259,7 +255,7 @@ digit_ascii c =
 module _ (s : List ℕ) (j : ℕ) where
   module _ (x : ℕ) (p : Passes_1 s j) (o : Whole s (j + 1)) where
     lands_hex : (h l w₁ w₂ : ℕ) → Seen s (j + 1) h w₁ → Seen s (j + 1 + w₁) l w₂ → octal h && hexadecimal l ≡ true
-        → Lands s j (Byte (16 * digit h + digit l) 4)
+        → Lands s j (Ok (16 * digit h + digit l, 4))
     lands_hex h l w₁ w₂ a b t =
         let e = both (octal h) (hexadecimal l) t in
         let d₁ : digit h < 8 = ltb-true _ _ e.0 in
@@ -281,15 +277,15 @@ module _ (s : List ℕ) (j : ℕ) where
     unfolding ascii_escape
     lands_ascii = one (sight_at s (j + 1)) refl
       where
-        two : (h w₁ : ℕ) → Seen s (j + 1) h w₁ → (y : Sight) → sight_at s (j + 1 + w₁) ≡ y → Lands s j (ascii_escape (h ∷ chars (drop (j + 1 + w₁) s)) x)
-        two h w₁ a End e = rw (ended _ _ e).none (lands_bad s j _)
-        two h w₁ a (Char l w₂) e =
+        two : (h w₁ : ℕ) → Seen s (j + 1) h w₁ → (y : Option (ℕ × ℕ)) → sight_at s (j + 1 + w₁) ≡ y → Lands s j (ascii_escape (h ∷ chars (drop (j + 1 + w₁) s)) x)
+        two h w₁ a None e = rw (ended _ _ e).none (lands_bad s j _)
+        two h w₁ a (Some (l, w₂)) e =
             let b : Seen s (j + 1 + w₁) l w₂ = seen _ _ _ _ e in
             rw b.next (lands_test s j (octal h && hexadecimal l) _ _ (lands_hex h l w₁ w₂ a b) (λ t. lands_bad s j _))
 
-        one : (y : Sight) → sight_at s (j + 1) ≡ y → Lands s j (ascii_escape (chars (drop (j + 1) s)) x)
-        one End e = rw (ended _ _ e).none (lands_bad s j _)
-        one (Char h w₁) e = let a : Seen s (j + 1) h w₁ = seen _ _ _ _ e in rw a.next (two h w₁ a (sight_at s (j + 1 + w₁)) refl)
+        one : (y : Option (ℕ × ℕ)) → sight_at s (j + 1) ≡ y → Lands s j (ascii_escape (chars (drop (j + 1) s)) x)
+        one None e = rw (ended _ _ e).none (lands_bad s j _)
+        one (Some (h, w₁)) e = let a : Seen s (j + 1) h w₁ = seen _ _ _ _ e in rw a.next (two h w₁ a (sight_at s (j + 1 + w₁)) refl)
 
   module _ (c w : ℕ) (h : Seen s j c w) (o : Whole s j) where
     lands_on : (k : ℕ) → ltb k 128 ≡ true → eqb c k ≡ true → w ≡ 1
@@ -298,7 +294,7 @@ module _ (s : List ℕ) (j : ℕ) where
         let r : k < 128 = ltb-true k 128 p in
         narrow h (omega arith)
 
-    lands_named : (k v : ℕ) → ltb k 128 ≡ true → ltb v 128 ≡ true → eqb c k ≡ true → Lands s j (Byte v 2)
+    lands_named : (k v : ℕ) → ltb k 128 ≡ true → ltb v 128 ≡ true → eqb c k ≡ true → Lands s j (Ok (v, 2))
     lands_named k v p q e =
         let n = lands_on k p e in
         let r = h.room in
@@ -318,9 +314,9 @@ module _ (s : List ℕ) (j : ℕ) where
   unfolding escape
   lands at o = go (sight_at s j) refl
     where
-      go : (y : Sight) → sight_at s j ≡ y → Lands s j (escape (chars (drop j s)) at)
-      go End e = rw (ended _ _ e).none (lands_bad s j _)
-      go (Char c w) e = let h : Seen s j c w = seen _ _ _ _ e in rw h.next (lands_char c w h o at)
+      go : (y : Option (ℕ × ℕ)) → sight_at s j ≡ y → Lands s j (escape (chars (drop j s)) at)
+      go None e = rw (ended _ _ e).none (lands_bad s j _)
+      go (Some (c, w)) e = let h : Seen s j c w = seen _ _ _ _ e in rw h.next (lands_char c w h o at)
 
 whole-nil : Whole [] 0
 unfolding reach chars chars_from
@@ -345,22 +341,22 @@ module _ (s : List ℕ) (P : ℕ → Type 0) where
 
   pub by_boundary : ((i : ℕ) → length s ≤ i → P i)
       → ((i : ℕ) → Later i → i < length s → Whole s i → eqb (get_or s i 0) 'backslash ≡ true → P i)
-      → ((i k w : ℕ) → Later i → i < length s → Whole s i → sight_at s i ≡ Char k w → eqb (get_or s i 0) 'backslash ≡ false → P i)
+      → ((i k w : ℕ) → Later i → i < length s → Whole s i → sight_at s i ≡ Some (k, w) → eqb (get_or s i 0) 'backslash ≡ false → P i)
       → (n i : ℕ) → length s ≤ i + n → i ≤ length s → Whole s i → P i
   by_boundary past sign other zero i m r o = past i (omega arith)
   by_boundary past sign other (suc n) i m r o =
       go (λ j a b. by_boundary past sign other n j (omega arith) b) (sight_at s i) refl (eqb (get_or s i 0) 'backslash) refl
     where
-      go : Later i → (x : Sight) → sight_at s i ≡ x → (t : Bool) → eqb (get_or s i 0) 'backslash ≡ t → P i
-      go f End p t q = past i (omega (arith, sym (reach-end s i (ended s i p)) ∙ o))
-      go f (Char k w) p true q = let h : Seen s i k w = seen s i k w p in sign i f (omega arith) o q
-      go f (Char k w) p false q = let h : Seen s i k w = seen s i k w p in other i k w f (omega arith) o p q
+      go : Later i → (x : Option (ℕ × ℕ)) → sight_at s i ≡ x → (t : Bool) → eqb (get_or s i 0) 'backslash ≡ t → P i
+      go f None p t q = past i (omega (arith, sym (reach-end s i (ended s i p)) ∙ o))
+      go f (Some (k, w)) p true q = let h : Seen s i k w = seen s i k w p in sign i f (omega arith) o q
+      go f (Some (k, w)) p false q = let h : Seen s i k w = seen s i k w p in other i k w f (omega arith) o p q
 
 -- what is expanded from i on is well formed
 abbrev pub Forms : List ℕ → ℕ → ℕ → Type 0
 Forms s idx0 i = (l : List ℕ) → rest s idx0 i ≡ gives l → Whole l 0
 
-formed_char : (s : List ℕ) (idx0 i k w : ℕ) → Later s (Forms s idx0) i → i < length s → Whole s i → sight_at s i ≡ Char k w
+formed_char : (s : List ℕ) (idx0 i k w : ℕ) → Later s (Forms s idx0) i → i < length s → Whole s i → sight_at s i ≡ Some (k, w)
     → eqb (get_or s i 0) 'backslash ≡ false → Forms s idx0 i
 unfolding sight_at
 formed_char s idx0 i k w f r o e t l q =
@@ -381,17 +377,17 @@ formed_escape s idx0 i f r o t l q = go (escape (chars (drop (i + 1) s)) (idx0 +
     -- the backslash is a character of its own
     next : Whole s (i + 1)
     next =
-        let e : sight_at s i ≡ Char (get_or s i 0) 1 = sym (sight_ascii s i r (omega (arith, b))) in
+        let e : sight_at s i ≡ Some (get_or s i 0, 1) = sym (sight_ascii s i r (omega (arith, b))) in
         whole-step s i (get_or s i 0) 1 (seen s i (get_or s i 0) 1 e) o
 
     go : (x : Read) → escape (chars (drop (i + 1) s)) (idx0 + i) ≡ x → Whole l 0
-    go (Bad y) e =
+    go (Err y) e =
         let z : gives l ≡ refused y = sym q ∙ rest-bad s idx0 i y r (rw t e) in
         let z : ◌≡◌ {A = ℕ} 0 1 = cc in
         absurd (omega arith)
-    go (Byte v w) e =
+    go (Ok (v, w)) e =
         let u : Turn s idx0 i v w = turn s idx0 i v w r (rw t e) in
-        let g : LandsIn s (i + 1) (Byte v w) = rw e at (lands s (i + 1) (idx0 + i) next).is in
+        let g : LandsIn s (i + 1) (Ok (v, w)) = rw e at (lands s (i + 1) (idx0 + i) next).is in
         let m = u.moves in
         let n : i + 1 + w - 1 ≡ i + w = omega arith in
         let a = after_front (v ∷ []) (rest s idx0 (i + w)) l (sym (rest_byte u) ∙ q) in

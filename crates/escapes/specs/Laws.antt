@@ -1,21 +1,23 @@
 -- Laws of the reading: one byte of the expansion, and what is left of it from a place on.
-use Rattle.std.specs.Prelude.{◌≡◌, refl, Bool, true, false, cond, ◌&&◌, ◌||◌, List, [], ◌∷◌, ℕ, zero, suc, ◌+◌, ◌-◌, ◌≤◌, ◌<◌, eqb, length, get_or, drop}
+use Rattle.std.specs.Prelude.{Ok, Err, ◌≡◌, refl, Bool, true, false, cond, ◌&&◌, ◌||◌, List, [], ◌∷◌, ℕ, zero, suc, ◌+◌, ◌-◌, ◌≤◌, ◌<◌, eqb, length, get_or, drop, Option, Some}
 use Rattle.std.proofs.Common.{sym, ap, ◌∙◌, add-zero, add-one, arith, drop_of_length-le, drop-cons, drop-drop}
 use Rattle.utf8.specs.Chars.{'backslash}
 use Rattle.utf8.specs.Picks.{by_test}
 use Rattle.record.specs.declared.Refusal.{Refusal}
-use Rattle.escapes.specs.declared.Read.{Read}
-use Rattle.escapes.specs.declared.Read.TheVariants.{Byte, Bad}
-use Rattle.escapes.specs.Escapes.{ascii_escape, escape, stands, Outcome, gives, refused, prepend, expand_from, has_byte}
+use Rattle.escapes.specs.Escapes.{Read, ascii_escape, escape, stands, Outcome, gives, refused, prepend, expand_from, has_byte}
 
 pub both : (a b : Bool) → a && b ≡ true → (a ≡ true) × (b ≡ true)
 both true b e = (refl, e)
 both false b e = (e, cc)
 
+-- what the parts of two equal sights are
+pub same_some : (c w k v : ℕ) → ◌≡◌ {A = Option (ℕ × ℕ)} (Some (c, w)) (Some (k, v)) → (c ≡ k) × (w ≡ v)
+same_some c w k v e = let x : ◌≡◌ {A = ℕ × ℕ} (c, w) (k, v) = cc in (ap (λ z. z.0) x, ap (λ z. z.1) x)
+
 -- what is read takes from one to four bytes
 abbrev TakesIn : Read → Type 0
-TakesIn (Byte v w) = (0 < w) × (w ≤ 4)
-TakesIn (Bad r) = Unit {0}
+TakesIn (Ok (v, w)) = (0 < w) × (w ≤ 4)
+TakesIn (Err r) = Unit {0}
 
 record Takes (x : Read) : Type 0 where
   is : TakesIn x
@@ -23,16 +25,16 @@ record Takes (x : Read) : Type 0 where
 takes-test : (t : Bool) (x y : Read) → Takes x → Takes y → Takes (cond t x y)
 takes-test t x y f g = by_test Takes t x y (λ h. f) (λ h. g)
 
-takes-bad : (r : Refusal) → Takes (Bad r)
+takes-bad : (r : Refusal) → Takes (Err r)
 takes-bad r = record { is = tt }
 
-takes_1 : (v : ℕ) → Takes (Byte v 1)
+takes_1 : (v : ℕ) → Takes (Ok (v, 1))
 takes_1 v = record { is = (omega arith, omega arith) }
 
-takes_2 : (v : ℕ) → Takes (Byte v 2)
+takes_2 : (v : ℕ) → Takes (Ok (v, 2))
 takes_2 v = record { is = (omega arith, omega arith) }
 
-takes_4 : (v : ℕ) → Takes (Byte v 4)
+takes_4 : (v : ℕ) → Takes (Ok (v, 4))
 takes_4 v = record { is = (omega arith, omega arith) }
 
 takes_ascii : (cs : List ℕ) (x : ℕ) → Takes (ascii_escape cs x)
@@ -55,11 +57,11 @@ pub record Turn (s : List ℕ) (idx0 i v w : ℕ) : Type 0 where
   pub within : i < length s
   pub moves : 0 < w
   pub small : w ≤ 4
-  pub is : stands (get_or s i 0) (drop (i + 1) s) (idx0 + i) ≡ Byte v w
+  pub is : stands (get_or s i 0) (drop (i + 1) s) (idx0 + i) ≡ Ok (v, w)
 
-pub turn : (s : List ℕ) (idx0 i v w : ℕ) → i < length s → stands (get_or s i 0) (drop (i + 1) s) (idx0 + i) ≡ Byte v w → Turn s idx0 i v w
+pub turn : (s : List ℕ) (idx0 i v w : ℕ) → i < length s → stands (get_or s i 0) (drop (i + 1) s) (idx0 + i) ≡ Ok (v, w) → Turn s idx0 i v w
 turn s idx0 i v w l e =
-    let o : TakesIn (Byte v w) = rw e at (takes (get_or s i 0) (drop (i + 1) s) (idx0 + i)).is in
+    let o : TakesIn (Ok (v, w)) = rw e at (takes (get_or s i 0) (drop (i + 1) s) (idx0 + i)).is in
     record { within = l; moves = o.0; small = o.1; is = e }
 
 -- after k bytes: the rest
@@ -76,11 +78,11 @@ abbrev pub rest : List ℕ → ℕ → ℕ → Outcome
 rest s idx0 i = expand_from 0 (drop i s) (idx0 + i)
 
 -- the first byte of a list is read
-pub first_byte : (b : ℕ) (s : List ℕ) (at v w : ℕ) → stands b s at ≡ Byte v w → expand_from 0 (b ∷ s) at ≡ prepend (v ∷ []) (expand_from (w - 1) s (at + 1))
+pub first_byte : (b : ℕ) (s : List ℕ) (at v w : ℕ) → stands b s at ≡ Ok (v, w) → expand_from 0 (b ∷ s) at ≡ prepend (v ∷ []) (expand_from (w - 1) s (at + 1))
 unfolding expand_from
 first_byte b s at v w e = rw (e, expand_from)
 
-pub first-bad : (b : ℕ) (s : List ℕ) (at : ℕ) (r : Refusal) → stands b s at ≡ Bad r → expand_from 0 (b ∷ s) at ≡ refused r
+pub first-bad : (b : ℕ) (s : List ℕ) (at : ℕ) (r : Refusal) → stands b s at ≡ Err r → expand_from 0 (b ∷ s) at ≡ refused r
 unfolding expand_from
 first-bad b s at r e = rw (e, expand_from)
 
@@ -96,7 +98,7 @@ rest_byte {s} {idx0} {i} {v} {w} t =
     skip (w - 1) (drop (i + 1) s) (idx0 + i + 1) ∙ rw (f, drop-drop (w - 1) (i + 1) s, e) in
     rw (cons-at s i t.within) (first_byte _ _ _ _ _ t.is ∙ ap (prepend (v ∷ [])) g)
 
-pub rest-bad : (s : List ℕ) (idx0 i : ℕ) (r : Refusal) → i < length s → stands (get_or s i 0) (drop (i + 1) s) (idx0 + i) ≡ Bad r → rest s idx0 i ≡ refused r
+pub rest-bad : (s : List ℕ) (idx0 i : ℕ) (r : Refusal) → i < length s → stands (get_or s i 0) (drop (i + 1) s) (idx0 + i) ≡ Err r → rest s idx0 i ≡ refused r
 rest-bad s idx0 i r l e = rw (cons-at s i l) (first-bad _ _ _ _ e)
 
 pub rest_end : (s : List ℕ) (idx0 i : ℕ) → length s ≤ i → rest s idx0 i ≡ gives []
@@ -130,8 +132,8 @@ short-from (suc k) (b ∷ s) at l e = let f = short-from k s (at + 1) l e in ome
 short-from zero (b ∷ s) at l e = go (λ k. short-from k s (at + 1)) (stands b s at) refl
   where
     go : ((k : ℕ) → Short s (expand_from k s (at + 1))) → (x : Read) → stands b s at ≡ x → length l ≤ length (b ∷ s)
-    go f (Byte v w) p = short-more b v s (expand_from (w - 1) s (at + 1)) (f (w - 1)) l (sym (first_byte b s at v w p) ∙ e)
-    go f (Bad r) p =
+    go f (Ok (v, w)) p = short-more b v s (expand_from (w - 1) s (at + 1)) (f (w - 1)) l (sym (first_byte b s at v w p) ∙ e)
+    go f (Err r) p =
         let q : gives l ≡ refused r = sym e ∙ first-bad b s at r p in
         let z : ◌≡◌ {A = ℕ} 0 1 = cc in
         absurd (omega arith)

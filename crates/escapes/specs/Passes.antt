@@ -1,8 +1,7 @@
 -- What the inner functions of the expander promise one another. The answer's definitions (Escapes, Answers) do not use it.
-use Rattle.std.specs.Prelude.{ℕ, ◌+◌, ◌≤◌, Bool, false, List, ◌++◌, leb, length, drop}
+use Rattle.std.specs.Prelude.{Result, Ok, Err, ℕ, ◌+◌, ◌≤◌, Bool, false, List, ◌++◌, leb, length, drop}
 use Rattle.record.specs.Checks.{text_limit, shift_limit}
-use Rattle.escapes.specs.declared.Measured.{Measured}
-use Rattle.escapes.specs.declared.Measured.TheVariants.{Long, Stopped}
+use Rattle.record.specs.declared.Refusal.{Refusal}
 use Rattle.escapes.specs.Escapes.{Outcome, gives, refused}
 
 -- what the checks leave: a text and a shift that may be read with it
@@ -11,9 +10,9 @@ pub record Readable (s : List ℕ) (idx0 : ℕ) : Type 0 where
   pub shift : idx0 + length s ≤ shift_limit
 
 -- how many bytes, or the refusal
-abbrev pub measured : Outcome → Measured
-measured (gives l) = Long (length l)
-measured (refused r) = Stopped r
+abbrev pub measured : Outcome → Result ℕ Refusal
+measured (gives l) = Ok (length l)
+measured (refused r) = Err r
 
 -- whether it is bytes, and n places hold them; and a buffer with them from its start on
 abbrev pub fits : Outcome → ℕ → Bool

@@ -8,8 +8,7 @@ ghost use Rattle.escapes.specs.Passes.{Readable, measured, fits, over};
 ghost use Rattle.escapes.specs.Answers.{expanded, applied, inside, cut, range_check, part_of, part_check};
 ghost use Rattle.utf8.specs.Chars.{'backslash};
 
-use record::{Checked, Code, Refusal};
-use utf8::Sight;
+use record::{Code, Refusal};
 use utf8::signs::{BACKSLASH, DOUBLE_QUOTE, LOWER_R};
 
 const LOWER_N: u32 = b'n' as u32;
@@ -31,18 +30,7 @@ const LOWER_A: u32 = b'a' as u32;
 const LOWER_F: u32 = b'f' as u32;
 
 // What stands at a place of the text: a byte of the expansion, and how many bytes of the text make it; or a refusal.
-#[derive(Clone, Copy)]
-enum Read {
-    Byte { byte: u8, width: usize },
-    Bad(Refusal),
-}
-
-// How many bytes the expansion has, or the refusal.
-#[derive(Clone, Copy)]
-enum Measured {
-    Long(usize),
-    Stopped(Refusal),
-}
+type Read = Result<(u8, usize), Refusal>;
 
 // Which of the two slices holds an expansion.
 #[derive(Clone, Copy)]
@@ -59,27 +47,17 @@ pub struct Part {
     pub end: usize,
 }
 
-// Where an expansion stands, or why there is none.
-#[derive(Clone, Copy)]
-pub enum Expanded {
-    Part(Part),
-    Refused(Refusal),
-}
-
-// The value of a hexadecimal digit; 16 for any other character.
+// The value of a hexadecimal digit; 16 for any other character, as the definition `digit` says.
+#[tactic(auto, unfolding(crate::specs::Escapes::digit))]
 fn digit(c: u32) -> u32
     ensures { result ≡ digit c }
 {
-    if (ZERO <= c) & (c <= NINE) {
-        return c - ZERO;
+    match c {
+        ZERO..=NINE => c - ZERO,
+        LOWER_A..=LOWER_F => c - LOWER_A + 10,
+        UPPER_A..=UPPER_F => c - UPPER_A + 10,
+        _ => 16,
     }
-    if (LOWER_A <= c) & (c <= LOWER_F) {
-        return c - LOWER_A + 10;
-    }
-    if (UPPER_A <= c) & (c <= UPPER_F) {
-        return c - UPPER_A + 10;
-    }
-    16
 }
 
 // What the characters after `\x` make of it, its x at a place.
@@ -88,18 +66,14 @@ fn apply_ascii_char_escape(s: &[u8], x: usize, idx0: u64) -> Read
     ensures { result ≡ ascii_escape (chars (drop (x + 1) s.now)) (idx0 + x) }
 {
     let place = idx0 + (x as u64);
-    let Sight::Char { code: octal, width } = utf8::char_at(s, x + 1) else {
-        return Read::Bad(Refusal {
+    let Some((octal, width)) = utf8::char_at(s, x + 1) else {
+        return Err(Refusal {
             code: Code::UnterminatedAsciiEscape,
             place,
         });
     };
-    let Sight::Char {
-        code: hex,
-        width: _,
-    } = utf8::char_at(s, x + 1 + width)
-    else {
-        return Read::Bad(Refusal {
+    let Some((hex, _)) = utf8::char_at(s, x + 1 + width) else {
+        return Err(Refusal {
             code: Code::UnterminatedAsciiEscape,
             place: place + 1,
         });
@@ -107,12 +81,9 @@ fn apply_ascii_char_escape(s: &[u8], x: usize, idx0: u64) -> Read
     let high = digit(octal);
     let low = digit(hex);
     if (high < 8) & (low < 16) {
-        return Read::Byte {
-            byte: (16 * high + low) as u8,
-            width: 4,
-        };
+        return Ok(((16 * high + low) as u8, 4));
     }
-    Read::Bad(Refusal {
+    Err(Refusal {
         code: Code::UnrecognizedEscape,
         place,
     })
@@ -124,55 +95,25 @@ fn escape_at(s: &[u8], i: usize, idx0: u64) -> Read
     ensures { result ≡ escape (chars (drop (i + 1) s.now)) (idx0 + i) }
 {
     let place = idx0 + (i as u64);
-    let Sight::Char { code: c, width: _ } = utf8::char_at(s, i + 1) else {
-        return Read::Bad(Refusal {
+    let Some((c, _)) = utf8::char_at(s, i + 1) else {
+        return Err(Refusal {
             code: Code::TrailingBackslash,
             place,
         });
     };
-    if c == BACKSLASH {
-        return Read::Byte {
-            byte: b'\\',
-            width: 2,
-        };
+    match c {
+        BACKSLASH => Ok((b'\\', 2)),
+        DOUBLE_QUOTE => Ok((b'"', 2)),
+        LOWER_N => Ok((b'\n', 2)),
+        LOWER_R => Ok((b'\r', 2)),
+        LOWER_T => Ok((b'\t', 2)),
+        ZERO => Ok((b'\0', 2)),
+        LOWER_X => apply_ascii_char_escape(s, i + 1, idx0),
+        _ => Err(Refusal {
+            code: Code::UnrecognizedEscape,
+            place: place + 1,
+        }),
     }
-    if c == DOUBLE_QUOTE {
-        return Read::Byte {
-            byte: b'"',
-            width: 2,
-        };
-    }
-    if c == LOWER_N {
-        return Read::Byte {
-            byte: b'\n',
-            width: 2,
-        };
-    }
-    if c == LOWER_R {
-        return Read::Byte {
-            byte: b'\r',
-            width: 2,
-        };
-    }
-    if c == LOWER_T {
-        return Read::Byte {
-            byte: b'\t',
-            width: 2,
-        };
-    }
-    if c == ZERO {
-        return Read::Byte {
-            byte: b'\0',
-            width: 2,
-        };
-    }
-    if c == LOWER_X {
-        return apply_ascii_char_escape(s, i + 1, idx0);
-    }
-    Read::Bad(Refusal {
-        code: Code::UnrecognizedEscape,
-        place: place + 1,
-    })
 }
 
 // What stands at a place of the text.
@@ -184,7 +125,7 @@ fn read_at(s: &[u8], i: usize, idx0: u64) -> Read
     if byte == b'\\' {
         return escape_at(s, i, idx0);
     }
-    Read::Byte { byte, width: 1 }
+    Ok((byte, 1))
 }
 
 // One pass with no way out, which the compiler does many bytes at a time.
@@ -192,31 +133,25 @@ fn has_backslash(s: &[u8]) -> bool
     ensures { result ≡ has_byte 'backslash s.now }
 {
     let mut found = false;
-    let mut i: usize = 0;
-    while i < s.len() {
-        found = found | (s[i] == b'\\');
-        i += 1;
+    for b in s {
+        found |= *b == b'\\';
     }
     found
 }
 
-// How many bytes the expansion has, or the refusal.
-fn measure(s: &[u8], idx0: u64) -> Measured
+// How many bytes the expansion has, or the refusal. The step is as wide as what is read, which no iterator of the slice gives; in `write` too.
+fn measure(s: &[u8], idx0: u64) -> Result<usize, Refusal>
     requires { Readable s.now idx0 }
     ensures { result ≡ measured (expand s.now idx0) }
 {
     let mut i: usize = 0;
     let mut n: usize = 0;
     while i < s.len() {
-        match read_at(s, i, idx0) {
-            Read::Bad(r) => return Measured::Stopped(r),
-            Read::Byte { byte: _, width } => {
-                i += width;
-                n += 1;
-            }
-        }
+        let (_, width) = read_at(s, i, idx0)?;
+        i += width;
+        n += 1;
     }
-    Measured::Long(n)
+    Ok(n)
 }
 
 // Writes the expansion from the start of out on.
@@ -227,14 +162,12 @@ fn write(s: &[u8], idx0: u64, out: &mut [u8])
     let mut i: usize = 0;
     let mut n: usize = 0;
     while i < s.len() {
-        match read_at(s, i, idx0) {
-            Read::Bad(_) => return,
-            Read::Byte { byte, width } => {
-                out[n] = byte;
-                i += width;
-                n += 1;
-            }
-        }
+        let Ok((byte, width)) = read_at(s, i, idx0) else {
+            return;
+        };
+        out[n] = byte;
+        i += width;
+        n += 1;
     }
 }
 
@@ -252,48 +185,46 @@ fn beyond(room: usize, place: usize, n: usize) -> bool
 }
 
 // The answer for a text that passed the checks.
-fn expand_into(text: &[u8], idx0: u64, buf: &mut [u8], place: usize) -> Expanded
+fn expand_into(text: &[u8], idx0: u64, buf: &mut [u8], place: usize) -> Result<Part, Refusal>
     requires { Readable text.now idx0 }
     ensures { (result ≡ (expanded text.now idx0 buf.old place).answer)
         × (buf.new ≡ (expanded text.now idx0 buf.old place).buffer) }
 {
-    if has_backslash(text) {
-        match measure(text, idx0) {
-            Measured::Stopped(r) => Expanded::Refused(r),
-            Measured::Long(n) => {
-                if beyond(buf.len(), place, n) {
-                    return Expanded::Refused(Refusal {
-                        code: Code::NoRoom,
-                        place: idx0,
-                    });
-                }
-                write(text, idx0, &mut buf[place..]);
-                Expanded::Part(Part {
-                    held: Held::Buffer,
-                    start: place,
-                    end: place + n,
-                })
-            }
-        }
-    } else {
-        Expanded::Part(Part {
+    if !has_backslash(text) {
+        return Ok(Part {
             held: Held::Text,
             start: 0,
             end: text.len(),
-        })
+        });
     }
+    let n = measure(text, idx0)?;
+    if beyond(buf.len(), place, n) {
+        return Err(Refusal {
+            code: Code::NoRoom,
+            place: idx0,
+        });
+    }
+    write(text, idx0, &mut buf[place..]);
+    Ok(Part {
+        held: Held::Buffer,
+        start: place,
+        end: place + n,
+    })
 }
 
 // Expands the escapes of a text whose first byte has the place idx0, into the buffer from a place on; without a backslash
 // the answer is the text itself. What is refused writes nothing.
-pub fn apply_string_escapes(text: &[u8], idx0: u64, buf: &mut [u8], place: usize) -> Expanded
+pub fn apply_string_escapes(
+    text: &[u8],
+    idx0: u64,
+    buf: &mut [u8],
+    place: usize,
+) -> Result<Part, Refusal>
     ensures { (result ≡ (applied text.now idx0 buf.old place).answer)
         × (buf.new ≡ (applied text.now idx0 buf.old place).buffer) }
 {
-    match record::checks(text, idx0) {
-        Checked::Refused(r) => Expanded::Refused(r),
-        Checked::Passed => expand_into(text, idx0, buf, place),
-    }
+    record::checks(text, idx0)?;
+    expand_into(text, idx0, buf, place)
 }
 
 // Whether a range lies in n bytes.
@@ -306,11 +237,7 @@ fn inside(n: usize, start: usize, end: usize) -> bool
 fn cut(s: &[u8], start: usize, end: usize) -> &[u8]
     ensures { result.now ≡ cut s.now start end }
 {
-    if inside(s.len(), start, end) {
-        &s[start..end]
-    } else {
-        &s[..0]
-    }
+    s.get(start..end).unwrap_or(&[])
 }
 
 // The bytes of an expansion: a part of the text or a part of the buffer; empty for a range outside.
@@ -326,20 +253,20 @@ pub fn expansion<'a>(text: &'a [u8], buf: &'a [u8], part: Part) -> &'a [u8]
     }
 }
 
-fn range_check(n: usize, start: usize, end: usize) -> Checked
+fn range_check(n: usize, start: usize, end: usize) -> Result<(), Refusal>
     ensures { result ≡ range_check n start end }
 {
     if inside(n, start, end) {
-        return Checked::Passed;
+        return Ok(());
     }
-    Checked::Refused(Refusal {
+    Err(Refusal {
         code: Code::BadRecord,
         place: 0,
     })
 }
 
 // Whether the range of an expansion lies in its slice.
-pub fn expansion_check(text: &[u8], buf: &[u8], part: Part) -> Checked
+pub fn expansion_check(text: &[u8], buf: &[u8], part: Part) -> Result<(), Refusal>
     ensures { result ≡ part_check text.now buf.now part }
 {
     let held = part.held;

@@ -1,5 +1,5 @@
 -- What the code cites.
-use Rattle.std.specs.Prelude.{ℕ, ◌*◌, ◌/◌, ◌≤◌, ◌<◌, Bool, true, false, ◌&&◌, cond, ◌≡◌, refl, eqb, ltb, drop, take}
+use Rattle.std.specs.Prelude.{ℕ, ◌*◌, ◌/◌, ◌≤◌, ◌<◌, Bool, true, false, ◌&&◌, cond, ◌≡◌, refl, eqb, ltb, drop, take, Option, Some, Result, Ok, Err}
 use Rattle.std.proofs.Common.{arith, le-ltb, lt-ltb, ◌∙◌}
 use mathlib.Core.List.{List, [], map}
 use Rattle.std.proofs.Math.Path.{sym, ap}
@@ -7,8 +7,6 @@ use Rattle.std.proofs.Math.ListN.{length}
 use Rattle.std.proofs.Math.Seq.{take-append_seam}
 use Rattle.text.specs.Lay.{lay, lay_all}
 use Rattle.text.specs.Lines.{records_line, refusal_line}
-use Rattle.text.specs.declared.Came.{Came}
-use Rattle.text.specs.declared.Came.TheVariants.{To}
 use Rattle.record.specs.Numbers.{code_number}
 use Rattle.record.specs.Records.{over}
 use Rattle.record.specs.declared.Code.TheVariants.{TooLong}
@@ -25,8 +23,6 @@ use Rattle.run.specs.declared.Group.TheVariants.{Five}
 use Rattle.lent.specs.Copies.{fitted}
 use Rattle.ltk.specs.Faithful.{room-read}
 use Rattle.ltk.specs.Ltk.{delivered, entries_in, entry_of, file_check, read_answer, read_tokens, write_answer, written_bytes}
-use Rattle.ltk.specs.declared.Answer.{Answer}
-use Rattle.ltk.specs.declared.Answer.TheVariants.{Done, Refused as Not}
 use Rattle.ltk.specs.declared.Entry.{Entry}
 use Rattle.ledger.specs.Written.{entries_are}
 use Rattle.commands.specs.Laws.{Is, SaidFrom, chunk_are, end-part, fits, head-on, held_all, how_is, mid_part, no_part, numbers_length, only_part, tokens-room}
@@ -41,24 +37,24 @@ Runs Ended = Unit {0}
 Runs Running = Unit {0}
 
 -- ---- the command `pack`
-pub write_done : (es : List Entry) (name d f x : List ℕ) (n : ℕ) → write_answer es (length d) ≡ Done n → x ≡ over (written_bytes es (length d)) d
-    → Left (packed_out es d) (packed_err es (length d) name f) (To n) x (To 0) f
+pub write_done : (es : List Entry) (name d f x : List ℕ) (n : ℕ) → write_answer es (length d) ≡ Ok n → x ≡ over (written_bytes es (length d)) d
+    → Left (packed_out es d) (packed_err es (length d) name f) (Some n) x (Some 0) f
 unfolding lay_all
 write_done es name d f x n e h = rw e (record { out_to = refl; out_held = h; err-to = refl; err-held = refl })
 
-pub write-not : (es : List Entry) (name d f x : List ℕ) (r : Refusal) (p : Came) (y : List ℕ) → write_answer es (length d) ≡ Not r → x ≡ over (written_bytes es (length d)) d
-    → Is (lay_all f (To 0) (file_lines name r)) p y → Left (packed_out es d) (packed_err es (length d) name f) (To 0) x p y
+pub write-not : (es : List Entry) (name d f x : List ℕ) (r : Refusal) (p : Option ℕ) (y : List ℕ) → write_answer es (length d) ≡ Err r → x ≡ over (written_bytes es (length d)) d
+    → Is (lay_all f (Some 0) (file_lines name r)) p y → Left (packed_out es d) (packed_err es (length d) name f) (Some 0) x p y
 write-not es name d f x r p y e h k = rw e (record { out_to = refl; out_held = h; err-to = k.0; err-held = k.1 })
 
-pub pack_long : (name s d f : List ℕ) (p : Came) (y : List ℕ) → text_limit < length s → Is (lay_all f (To 0) (limit_lines name text_limit)) p y
-    → Left (pack_out s d) (pack_err name s (length d) f) (To 0) d p y
+pub pack_long : (name s d f : List ℕ) (p : Option ℕ) (y : List ℕ) → text_limit < length s → Is (lay_all f (Some 0) (limit_lines name text_limit)) p y
+    → Left (pack_out s d) (pack_err name s (length d) f) (Some 0) d p y
 unfolding pack_err pack_out
 pack_long name s d f p y h k = rw (lt-ltb text_limit (length s) h) (record { out_to = refl; out_held = refl; err-to = k.0; err-held = k.1 })
 
 module _ (s old recs : List ℕ) (t : Tokenizer) (ran : Ran) (start : t ≡ start_state) (is : ran ≡ ran_of s 0 highest room t)
     (stored : recs ≡ fitted (numbers_all (whole_run s 0 highest room t).tokens) old) (wide : 163840 ≤ length old) (short : length s ≤ text_limit) (name d f : List ℕ) where
-  pub pack_refused : (r : Refusal) (p : Came) (y : List ℕ) → ran.how ≡ Refused r → Is (lay_all f (To 0) (refused_lines name s r)) p y
-      → Left (pack_out s d) (pack_err name s (length d) f) (To 0) d p y
+  pub pack_refused : (r : Refusal) (p : Option ℕ) (y : List ℕ) → ran.how ≡ Refused r → Is (lay_all f (Some 0) (refused_lines name s r)) p y
+      → Left (pack_out s d) (pack_err name s (length d) f) (Some 0) d p y
   unfolding pack_err pack_out
   pack_refused r p y e k =
       let h = sym (how_is Old s t ran start is) ∙ e in
@@ -77,7 +73,7 @@ module _ (s old recs : List ℕ) (t : Tokenizer) (ran : Ran) (start : t ≡ star
       ap (λ (k : ℕ). entries_in (take k recs)) m ∙ ap (λ (x : List ℕ). entries_in (take (length (numbers_all ts)) x)) q
       ∙ ap entries_in (take-append_seam (numbers_all ts) (drop (length (numbers_all ts)) old)) ∙ entries_are ts
 
-  pub pack_ended : (o : Outcome) (r : Came) (x : List ℕ) (p : Came) (y : List ℕ) → ran.how ≡ o → Runs o
+  pub pack_ended : (o : Outcome) (r : Option ℕ) (x : List ℕ) (p : Option ℕ) (y : List ℕ) → ran.how ≡ o → Runs o
       → Left (packed_out (entries_in (take (5 * ran.stored) recs)) d) (packed_err (entries_in (take (5 * ran.stored) recs)) (length d) name f) r x p y
       → Left (pack_out s d) (pack_err name s (length d) f) r x p y
   unfolding pack_err pack_out
@@ -94,9 +90,9 @@ read-room : (file : List ℕ) (k : ℕ) → delivered (read_answer file k) ≤ k
 unfolding read_answer
 read-room file k = room-read k (file_check file)
 
-pub read_few : (file : List ℕ) (k n : ℕ) (a : Answer) → a ≡ read_answer file k → a ≡ Done n → n ≤ k
+pub read_few : (file : List ℕ) (k n : ℕ) (a : Result ℕ Refusal) → a ≡ read_answer file k → a ≡ Ok n → n ≤ k
 read_few file k n a e d =
-    let h : read_answer file k ≡ Done n = sym e ∙ d in
+    let h : read_answer file k ≡ Ok n = sym e ∙ d in
     rw h at (read-room file k)
 
 pub wide : (l : List ℕ) → 163840 ≡ length l → 163840 ≤ length l
@@ -105,9 +101,9 @@ wide l e = omega (arith, e)
 pub long_held : (old recs : List ℕ) → length recs ≡ length old → 163840 ≡ length old → 163840 ≤ length recs
 long_held old recs e h = omega (arith, e, h)
 
-module _ (file old recs : List ℕ) (a : Answer) (is : a ≡ read_answer file room) (stored : recs ≡ fitted (numbers_all (read_tokens file room)) old) (wide : 163840 ≤ length old) (held : 163840 ≤ length recs)
-    (p : ℕ) (name d : List ℕ) (from : Came) (f : List ℕ) where
-  module _ (n : ℕ) (done : a ≡ Done n) where
+module _ (file old recs : List ℕ) (a : Result ℕ Refusal) (is : a ≡ read_answer file room) (stored : recs ≡ fitted (numbers_all (read_tokens file room)) old) (wide : 163840 ≤ length old) (held : 163840 ≤ length recs)
+    (p : ℕ) (name d : List ℕ) (from : Option ℕ) (f : List ℕ) where
+  module _ (n : ℕ) (done : a ≡ Ok n) where
     read_count : n ≡ length (read_tokens file room)
     read_count = sym (read_length file room ∙ ap delivered (sym is ∙ done))
 
@@ -117,39 +113,39 @@ module _ (file old recs : List ℕ) (a : Answer) (is : a ≡ read_answer file ro
         let m = read_few file room n a is done in
         held_all Five p n recs (omega (arith, m, held)) ∙ chunk_are Five p (read_tokens file room) old recs n (stored ∙ fits (read_tokens file room) old (omega (arith, l, m, wide))) l
 
-    pub read-end : (c : Came) (e : List ℕ) (r : Came) (x : List ℕ) → p ≡ n / chunk → Is (lay_all d from (held_lines Five p n recs)) c e → Is (lay e c (records_line n)) r x
-        → SaidFrom Five p (read_tokens file room) (file_last (read_answer file room)) (read_err name (read_answer file room)) d from f r x (To 0) f false
+    pub read-end : (c : Option ℕ) (e : List ℕ) (r : Option ℕ) (x : List ℕ) → p ≡ n / chunk → Is (lay_all d from (held_lines Five p n recs)) c e → Is (lay e c (records_line n)) r x
+        → SaidFrom Five p (read_tokens file room) (file_last (read_answer file room)) (read_err name (read_answer file room)) d from f r x (Some 0) f false
     unfolding lay_all
     read-end c e r x h k g =
-        let t : read_answer file room ≡ Done n = sym is ∙ done in
-        rw t (end-part Five p (read_tokens file room) (records_line n) [] d from f n c e r x (To 0) f read_count h (rw read-chunk at k) g (refl, refl))
+        let t : read_answer file room ≡ Ok n = sym is ∙ done in
+        rw t (end-part Five p (read_tokens file room) (records_line n) [] d from f n c e r x (Some 0) f read_count h (rw read-chunk at k) g (refl, refl))
 
-    pub read_mid : (r : Came) (x : List ℕ) → (p ≡ n / chunk → ⊥) → Is (lay_all d from (held_lines Five p n recs)) r x
-        → SaidFrom Five p (read_tokens file room) (file_last (read_answer file room)) (read_err name (read_answer file room)) d from f r x (To 0) f (ltb p (n / chunk))
+    pub read_mid : (r : Option ℕ) (x : List ℕ) → (p ≡ n / chunk → ⊥) → Is (lay_all d from (held_lines Five p n recs)) r x
+        → SaidFrom Five p (read_tokens file room) (file_last (read_answer file room)) (read_err name (read_answer file room)) d from f r x (Some 0) f (ltb p (n / chunk))
     read_mid r x h k = mid_part Five p (read_tokens file room) (file_last (read_answer file room)) (read_err name (read_answer file room)) d from f n r x read_count h (rw read-chunk at k)
 
-module _ (file : List ℕ) (a : Answer) (is : a ≡ read_answer file room) (p : ℕ) (name d : List ℕ) (from : Came) (f : List ℕ) (z : Refusal) (not : a ≡ Not z) where
+module _ (file : List ℕ) (a : Result ℕ Refusal) (is : a ≡ read_answer file room) (p : ℕ) (name d : List ℕ) (from : Option ℕ) (f : List ℕ) (z : Refusal) (not : a ≡ Err z) where
   read_none : read_tokens file room ≡ []
   read_none = none (read_tokens file room) (read_length file room ∙ ap delivered (sym is ∙ not))
 
-  pub read-not : (r : Came) (x : List ℕ) (q : Came) (y : List ℕ) → p ≡ 0 → Is (lay d from (refusal_line (code_number z.code) z.place)) r x → Is (lay_all f (To 0) (file_lines name z)) q y
+  pub read-not : (r : Option ℕ) (x : List ℕ) (q : Option ℕ) (y : List ℕ) → p ≡ 0 → Is (lay d from (refusal_line (code_number z.code) z.place)) r x → Is (lay_all f (Some 0) (file_lines name z)) q y
       → SaidFrom Five p (read_tokens file room) (file_last (read_answer file room)) (read_err name (read_answer file room)) d from f r x q y false
   read-not r x q y h k g =
-      let t : read_answer file room ≡ Not z = sym is ∙ not in
+      let t : read_answer file room ≡ Err z = sym is ∙ not in
       rw t (only_part Five p (read_tokens file room) (refusal_line (code_number z.code) z.place) (file_lines name z) d from f r x q y read_none h k g)
 
-  pub read-after : (p ≡ 0 → ⊥) → SaidFrom Five p (read_tokens file room) (file_last (read_answer file room)) (read_err name (read_answer file room)) d from f from d (To 0) f false
+  pub read-after : (p ≡ 0 → ⊥) → SaidFrom Five p (read_tokens file room) (file_last (read_answer file room)) (read_err name (read_answer file room)) d from f from d (Some 0) f false
   read-after h = no_part Five p (read_tokens file room) (file_last (read_answer file room)) (read_err name (read_answer file room)) d from f read_none h
 
-module _ (headed : Bool) (name s : List ℕ) (p : ℕ) (d : List ℕ) (c : Came) (e f : List ℕ) (r : Came) (x : List ℕ) (q : Came) (y : List ℕ) (m : Bool)
-    (h : Is (lay_all d (To 0) (header_lines (headed && eqb p 0) name)) c e) where
+module _ (headed : Bool) (name s : List ℕ) (p : ℕ) (d : List ℕ) (c : Option ℕ) (e f : List ℕ) (r : Option ℕ) (x : List ℕ) (q : Option ℕ) (y : List ℕ) (m : Bool)
+    (h : Is (lay_all d (Some 0) (header_lines (headed && eqb p 0) name)) c e) where
   pub unpack_long : file_limit < length s → SaidFrom Five p [] (refusal_line (code_number TooLong) 0) (limit_lines name file_limit) e c f r x q y m
-      → Left (lay_all d (To 0) (unpack_part p headed name s)) (lay_all f (To 0) (unpack_part_err p name s)) r x q y × (m ≡ unpack_more p s)
+      → Left (lay_all d (Some 0) (unpack_part p headed name s)) (lay_all f (Some 0) (unpack_part_err p name s)) r x q y × (m ≡ unpack_more p s)
   unfolding unpack_err unpack_last unpack_more unpack_part unpack_part_err unpack_tokens
   unpack_long l k = rw (lt-ltb file_limit (length s) l) (head-on Five headed name p [] (refusal_line (code_number TooLong) 0) (limit_lines name file_limit) d c e f r x q y m h k)
 
   pub unpack_read : length s ≤ file_limit → SaidFrom Five p (read_tokens s room) (file_last (read_answer s room)) (read_err name (read_answer s room)) e c f r x q y m
-      → Left (lay_all d (To 0) (unpack_part p headed name s)) (lay_all f (To 0) (unpack_part_err p name s)) r x q y × (m ≡ unpack_more p s)
+      → Left (lay_all d (Some 0) (unpack_part p headed name s)) (lay_all f (Some 0) (unpack_part_err p name s)) r x q y × (m ≡ unpack_more p s)
   unfolding unpack_err unpack_last unpack_more unpack_part unpack_part_err unpack_tokens
   unpack_read l k = rw (le-ltb file_limit (length s) l) (head-on Five headed name p (read_tokens s room) (file_last (read_answer s room)) (read_err name (read_answer s room)) d c e f r x q y m h k)
 

@@ -1,5 +1,5 @@
 -- The parts of an LTK file's listing, one after another, are the whole listing.
-use Rattle.std.specs.Prelude.{ℕ, suc, Bool, true, false, cond, List, [], ◌∷◌, ◌++◌, map, ◌≡◌, refl, ltb, length}
+use Rattle.std.specs.Prelude.{ℕ, suc, Bool, true, false, cond, List, [], ◌∷◌, ◌++◌, map, ◌≡◌, refl, ltb, length, Result, Ok, Err}
 use Rattle.std.proofs.Common.{arith, ap, ◌∙◌}
 use Rattle.std.proofs.lemmas.List.{length-map}
 use Rattle.record.specs.Numbers.{code_number}
@@ -9,12 +9,11 @@ use Rattle.run.specs.declared.Group.TheVariants.{Five}
 use Rattle.text.specs.Lines.{refusal_line}
 use Rattle.ltk.specs.Laws.{length-listed}
 use Rattle.ltk.specs.Ltk.{delivered, entry_at, read_answer, read_entries, read_tokens, token_in}
-use Rattle.ltk.specs.declared.Answer.{Answer}
-use Rattle.ltk.specs.declared.Answer.TheVariants.{Done, Refused as Not}
 use Rattle.commands.specs.Lists.{header_lines, record_line, room}
 use Rattle.commands.specs.Parts.{first_parts, last_part}
 use Rattle.commands.specs.Whole.{all_parts}
 use Rattle.files.specs.Files.{file_last, file_limit, file_listing, read_lines, unpack_last, unpack_out, unpack_part, unpack_tokens}
+use Rattle.record.specs.declared.Refusal.{Refusal}
 
 pub none : (ts : List Token) → length ts ≡ 0 → ts ≡ []
 none [] e = refl
@@ -24,9 +23,9 @@ pub read_length : (file : List ℕ) (k : ℕ) → length (read_tokens file k) �
 unfolding read_tokens
 read_length file k = length-map (read_entries file k) token_in ∙ length-listed (entry_at file) 0 (delivered (read_answer file k))
 
-file-whole : (a : Answer) (ts : List Token) → length ts ≡ delivered a → map (record_line Five) ts ++ (file_last a ∷ []) ≡ read_lines a ts
-file-whole (Done n) ts e = refl
-file-whole (Not r) ts e = rw (none ts e) refl
+file-whole : (a : Result ℕ Refusal) (ts : List Token) → length ts ≡ delivered a → map (record_line Five) ts ++ (file_last a ∷ []) ≡ read_lines a ts
+file-whole (Ok n) ts e = refl
+file-whole (Err r) ts e = rw (none ts e) refl
 
 unpack_whole : (file : List ℕ) → map (record_line Five) (unpack_tokens file) ++ (unpack_last file ∷ []) ≡ cond (ltb file_limit (length file)) (refusal_line (code_number TooLong) 0 ∷ []) (file_listing file)
 unfolding file_listing unpack_last unpack_tokens

@@ -5,20 +5,17 @@ ghost use Rattle.std.specs.Prelude.{◌≡◌, ◌*◌, ◌≤◌, length, take,
 ghost use Rattle.run.specs.declared.Group.TheVariants.{Five};
 ghost use Rattle.ltk.specs.Ltk.{entries_in, read_answer, read_tokens};
 ghost use Rattle.text.specs.Lay.{lay_all};
-ghost use Rattle.text.specs.declared.Came.TheVariants.{To};
 ghost use Rattle.commands.specs.Lists.{Left, room};
 ghost use Rattle.commands.specs.Parts.{last_part, only_in, part_lines};
 ghost use Rattle.files.specs.Files.{file_last, file_lines, pack_err, pack_out, packed_err, packed_out, read_err, unpack_more, unpack_part, unpack_part_err};
 
 use commands::Said;
-use ltk::Answer;
 use reading::Outcome;
 use record::{Code, Refusal};
 use run::Group;
-use text::Came;
 
 // For people: where an LTK file is refused, or a record that is to be written, and why.
-fn file_onto(err: &mut [u8], from: Came, name: &[u8], r: Refusal) -> Came
+fn file_onto(err: &mut [u8], from: Option<usize>, name: &[u8], r: Refusal) -> Option<usize>
     ensures { (result ≡ (lay_all err.old from (file_lines name.now r)).to) × (err.new ≡ (lay_all err.old from (file_lines name.now r)).held) }
 {
     let code = r.code;
@@ -40,15 +37,15 @@ fn write_onto(out: &mut [u8], err: &mut [u8], name: &[u8], records: &[u64], coun
 {
     let n = 5 * count;
     match ltk::write_numbers(&records[..n], out) {
-        Answer::Done(size) => Said {
-            out: Came::To(size),
-            err: Came::To(0),
+        Ok(size) => Said {
+            out: Some(size),
+            err: Some(0),
             more: false,
         },
-        Answer::Refused(r) => {
-            let people = file_onto(err, Came::To(0), name, r);
+        Err(r) => {
+            let people = file_onto(err, Some(0), name, r);
             Said {
-                out: Came::To(0),
+                out: Some(0),
                 err: people,
                 more: false,
             }
@@ -61,9 +58,9 @@ pub fn pack(name: &[u8], text: &[u8], out: &mut [u8], err: &mut [u8]) -> Said
     ensures { Left (pack_out text.now out.old) (pack_err name.now text.now (length out.old) err.old) result.out out.new result.err err.new × (result.more ≡ false) }
 {
     if commands::TEXT_LIMIT < text.len() {
-        let people = commands::limit_onto(err, Came::To(0), name, commands::TEXT_LIMIT as u64);
+        let people = commands::limit_onto(err, Some(0), name, commands::TEXT_LIMIT as u64);
         return Said {
-            out: Came::To(0),
+            out: Some(0),
             err: people,
             more: false,
         };
@@ -73,9 +70,9 @@ pub fn pack(name: &[u8], text: &[u8], out: &mut [u8], err: &mut [u8]) -> Said
     let how = ran.how;
     match how {
         Outcome::Refused(r) => {
-            let people = commands::refused_onto(err, Came::To(0), name, text, r);
+            let people = commands::refused_onto(err, Some(0), name, text, r);
             Said {
-                out: Came::To(0),
+                out: Some(0),
                 err: people,
                 more: false,
             }
@@ -92,37 +89,37 @@ pub const FILE_LIMIT: usize = 294921;
 fn read_onto(
     part: usize,
     out: &mut [u8],
-    from: Came,
+    from: Option<usize>,
     err: &mut [u8],
     name: &[u8],
     file: &[u8],
 ) -> Said
-    ensures { Left (lay_all out.old from (part_lines Five part (read_tokens file.now room) (file_last (read_answer file.now room)))) (lay_all err.old (To 0) (only_in (last_part (read_tokens file.now room)) part (read_err name.now (read_answer file.now room)))) result.out out.new result.err err.new × (result.more ≡ ltb part (last_part (read_tokens file.now room))) }
+    ensures { Left (lay_all out.old from (part_lines Five part (read_tokens file.now room) (file_last (read_answer file.now room)))) (lay_all err.old (Some 0) (only_in (last_part (read_tokens file.now room)) part (read_err name.now (read_answer file.now room)))) result.out out.new result.err err.new × (result.more ≡ ltb part (last_part (read_tokens file.now room))) }
 {
     let mut records = blank();
     match lent::read_listed(file, &mut records) {
-        Answer::Done(n) => {
+        Ok(n) => {
             let last = n / commands::CHUNK;
             let lines = commands::part_onto(out, from, &records, Group::Five, n, part);
             if part == last {
                 let end = text::records_line(out, lines, n as u64);
                 return Said {
                     out: end,
-                    err: Came::To(0),
+                    err: Some(0),
                     more: false,
                 };
             }
             Said {
                 out: lines,
-                err: Came::To(0),
+                err: Some(0),
                 more: part < last,
             }
         }
-        Answer::Refused(r) => {
+        Err(r) => {
             if part == 0 {
                 let code = r.code;
                 let end = text::refusal_line(out, from, commands::number_of(code), r.place);
-                let people = file_onto(err, Came::To(0), name, r);
+                let people = file_onto(err, Some(0), name, r);
                 return Said {
                     out: end,
                     err: people,
@@ -131,7 +128,7 @@ fn read_onto(
             }
             Said {
                 out: from,
-                err: Came::To(0),
+                err: Some(0),
                 more: false,
             }
         }
@@ -147,13 +144,13 @@ pub fn unpack(
     out: &mut [u8],
     err: &mut [u8],
 ) -> Said
-    ensures { Left (lay_all out.old (To 0) (unpack_part part headed name.now file.now)) (lay_all err.old (To 0) (unpack_part_err part name.now file.now)) result.out out.new result.err err.new × (result.more ≡ unpack_more part file.now) }
+    ensures { Left (lay_all out.old (Some 0) (unpack_part part headed name.now file.now)) (lay_all err.old (Some 0) (unpack_part_err part name.now file.now)) result.out out.new result.err err.new × (result.more ≡ unpack_more part file.now) }
 {
-    let head = commands::header_onto(out, Came::To(0), headed & (part == 0), name);
+    let head = commands::header_onto(out, Some(0), headed & (part == 0), name);
     if FILE_LIMIT < file.len() {
         if part == 0 {
             let line = text::refusal_line(out, head, commands::number_of(Code::TooLong), 0);
-            let people = commands::limit_onto(err, Came::To(0), name, FILE_LIMIT as u64);
+            let people = commands::limit_onto(err, Some(0), name, FILE_LIMIT as u64);
             return Said {
                 out: line,
                 err: people,
@@ -162,7 +159,7 @@ pub fn unpack(
         }
         return Said {
             out: head,
-            err: Came::To(0),
+            err: Some(0),
             more: false,
         };
     }

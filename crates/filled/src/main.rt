@@ -4,71 +4,54 @@
 
 mod say;
 
-ghost use Rattle.std.specs.Prelude.{◌≡◌, length};
+use say::{difference, taken};
+use shown::page::{numbers, unchanged};
+use shown::say;
 
-use say::{difference, numbers, say};
-
-// A sheet, or a row beside it, with nothing on it.
-fn empty_row() -> [u64; 96]
-    ensures { 96 ≡ length result }
-{
-    [0; 96]
-}
-
-// A number of an answer that is made wrong: one more than it is.
-fn wrong(answer: &mut [u64], at: usize) {
-    if at < answer.len() {
-        answer[at] = answer[at].wrapping_add(1);
+// The number of an answer that is made wrong, if one is: one more than it is.
+fn wrong(answer: &mut [u64], at: Option<usize>) {
+    if let Some(n) = at.and_then(|i| answer.get_mut(i)) {
+        *n = n.wrapping_add(1);
     }
 }
 
 // A text on the sheet, and its recorded answer on the row, where the number at a place is wrong.
-fn both(text: &[u8], answer: &mut [u64], at: usize, page: &mut [u64], row: &mut [u64]) {
+fn both(text: &[u8], answer: &mut [u64], at: Option<usize>, page: &mut [u64], row: &mut [u64]) {
     wrong(answer, at);
     sheet::take(text, page);
     summed::recorded_onto(text, answer, row);
 }
 
-// No number of an answer has this place.
-const NONE: usize = 99;
-
-// An attribute, after which a character of two bytes is dropped.
-fn attribute(at: usize, page: &mut [u64], row: &mut [u64]) {
-    let mut answer = [0u64, 1, 0, 0, 5, 6, 53, 0, 4, 0, 4];
-    both(b"#![]\xc3\xa9", &mut answer, at, page, row);
-}
-
-// An attempt at an attribute that fails.
-fn attempt(at: usize, page: &mut [u64], row: &mut [u64]) {
-    let mut answer = [0u64, 1, 0, 0, 3, 2, 34, 0, 1, 0, 0];
-    both(b"#\n", &mut answer, at, page, row);
-}
-
-// A comment that does not end.
-fn comment(at: usize, page: &mut [u64], row: &mut [u64]) {
-    let mut answer = [0u64, 0, 10, 0, 3, 3];
-    both(b"/*/", &mut answer, at, page, row);
-}
-
-// Whitespace, an identifier and a comment, recorded with a shift, which a sheet does not have.
-fn shifted(at: usize, page: &mut [u64], row: &mut [u64]) {
-    let mut answer = [100u64, 1, 0, 0, 6, 6, 15, 101, 102, 101, 102];
-    both(b"\na//a/", &mut answer, at, page, row);
-}
-
-fn one(i: u64, at: usize, page: &mut [u64], row: &mut [u64]) {
+// A text by turns, with its recorded answer.
+fn one(i: u64, at: Option<usize>, page: &mut [u64], row: &mut [u64]) {
     match i % 4 {
-        0 => attribute(at, page, row),
-        1 => attempt(at, page, row),
-        2 => comment(at, page, row),
-        _ => shifted(at, page, row),
+        // an attribute, after which a character of two bytes is dropped
+        0 => {
+            let mut answer = [0u64, 1, 0, 0, 5, 6, 53, 0, 4, 0, 4];
+            both(b"#![]\xc3\xa9", &mut answer, at, page, row);
+        }
+        // an attempt at an attribute that fails
+        1 => {
+            let mut answer = [0u64, 1, 0, 0, 3, 2, 34, 0, 1, 0, 0];
+            both(b"#\n", &mut answer, at, page, row);
+        }
+        // a comment that does not end
+        2 => {
+            let mut answer = [0u64, 0, 10, 0, 3, 3];
+            both(b"/*/", &mut answer, at, page, row);
+        }
+        // whitespace, an identifier and a comment, recorded with a shift, which a sheet does not have
+        _ => {
+            let mut answer = [100u64, 1, 0, 0, 6, 6, 15, 101, 102, 101, 102];
+            both(b"\na//a/", &mut answer, at, page, row);
+        }
     }
 }
 
 // 1,023 texts, and their recorded answers as they are.
 fn fill(page: &mut [u64], row: &mut [u64]) {
     for i in 0..1023 {
-        one(i, NONE, page, row);
+        one(i, None, page, row);
     }
 }
 
@@ -81,10 +64,10 @@ fn compare(rt: &impl Print, page: [u64; 96], row: [u64; 96]) {
 
 // The answer of the last of 1,024 texts is wrong on purpose, in the number at a place.
 fn planted(rt: &impl Print, name: &[u8], last: u64, at: usize) {
-    let mut page = empty_row();
-    let mut row = empty_row();
+    let mut page = [0; 96];
+    let mut row = [0; 96];
     fill(&mut page, &mut row);
-    one(last, at, &mut page, &mut row);
+    one(last, Some(at), &mut page, &mut row);
     say(rt, name);
     compare(rt, page, row);
 }
@@ -93,8 +76,8 @@ fn planted(rt: &impl Print, name: &[u8], last: u64, at: usize) {
 fn offered(rt: &impl Print, name: &[u8], text: &[u8], page: [u64; 96]) {
     let mut after = page;
     say(rt, name);
-    say::taken(rt, sheet::take(text, &mut after));
-    say::unchanged(rt, &page, &after);
+    taken(rt, sheet::take(text, &mut after));
+    unchanged(rt, &page, &after);
 }
 
 fn all_planted(rt: &impl Print) {
@@ -105,10 +88,10 @@ fn all_planted(rt: &impl Print) {
 }
 
 fn main(rt: HostRuntime) {
-    let mut page = empty_row();
-    let mut row = empty_row();
+    let mut page = [0; 96];
+    let mut row = [0; 96];
     fill(&mut page, &mut row);
-    one(1023, NONE, &mut page, &mut row);
+    one(1023, None, &mut page, &mut row);
     say(&rt, b"1024 texts, beside their recorded answers: ");
     compare(&rt, page, row);
     numbers(&rt, &page);

@@ -1,18 +1,19 @@
 // String expansion.
-use crate::say::{bytes, checked, refusal, say};
-use escapes::{Expanded, Held, Part};
+use crate::say::{bytes, checked};
+use escapes::{Held, Part};
+use shown::{refusal, say};
 
 // An expansion with idx0 0 into a buffer of sixteen bytes, from a place on.
 fn expansion(rt: &impl Print, text: &[u8], place: usize) {
     say(rt, text);
     let mut buffer = [0u8; 16];
     match escapes::apply_string_escapes(text, 0, &mut buffer, place) {
-        Expanded::Part(part) => {
+        Ok(part) => {
             say(rt, b" bytes");
             bytes(rt, escapes::expansion(text, &buffer, part));
             say(rt, b"\n");
         }
-        Expanded::Refused(r) => {
+        Err(r) => {
             say(rt, b" ");
             refusal(rt, r);
         }

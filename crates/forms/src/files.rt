@@ -1,15 +1,16 @@
 // LTK files.
-use crate::say::{bytes, number, record_line, refusal, say};
-use ltk::Answer;
+use crate::say::{bytes, record_line};
+use record::Refusal;
+use shown::{number, refusal, say};
 
-fn answer(rt: &impl Print, a: Answer) {
+fn answer(rt: &impl Print, a: Result<usize, Refusal>) {
     match a {
-        Answer::Done(n) => {
+        Ok(n) => {
             say(rt, b"done ");
             number(rt, n as u64);
             say(rt, b"\n");
         }
-        Answer::Refused(r) => refusal(rt, r),
+        Err(r) => refusal(rt, r),
     }
 }
 

@@ -1,6 +1,7 @@
 // Payloads and their check.
-use crate::say::{bytes, checked, number, say};
+use crate::say::{bytes, checked};
 use record::Kind;
+use shown::{number, say};
 
 // The payload of a record of a text that starts with shift 7.
 fn payload(rt: &impl Print, a: u64, b: u64) {

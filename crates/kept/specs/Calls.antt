@@ -1,5 +1,5 @@
 -- ONE CALL: where it meets none of the three places, both readings answer the same.
-use Rattle.std.specs.Prelude.{◌+◌, ℕ, Bool, cond, false, true, ◌≡◌, refl, eqb, drop}
+use Rattle.std.specs.Prelude.{◌+◌, ℕ, Bool, cond, false, true, ◌≡◌, refl, eqb, drop, Ok, Err}
 use mathlib.Core.List.{List, [], ◌∷◌}
 use Rattle.std.proofs.Common.{◌∙◌, ap}
 use borrow.Author.Tests.{eqb-true}
@@ -10,10 +10,8 @@ use Rattle.record.specs.declared.Kind.{Kind}
 use Rattle.record.specs.declared.Reading.TheVariants.{Kept, Old}
 use Rattle.scan.specs.IfNext.{if_next}
 use Rattle.scan.specs.Seek.{seek}
-use Rattle.scan.specs.declared.Found.{Found}
-use Rattle.scan.specs.declared.Found.TheVariants.{At, Nothing}
-use Rattle.scan.specs.declared.Skip.{Skip}
-use Rattle.scan.specs.declared.Skip.TheVariants.{Lost, Past}
+use Rattle.scan.specs.Shapes.{Found}
+use Rattle.scan.specs.Shapes.{Skip}
 use Rattle.scan.specs.declared.Sought.TheVariants.{Hashes, Word}
 use Rattle.reading.specs.Answers.{more, told}
 use Rattle.reading.specs.Attribute.{attempt, attribute_token, dropped, hash, hash_by}
@@ -22,8 +20,7 @@ use Rattle.reading.specs.Next.{next, next_by, starts, token, token_or_end}
 use Rattle.reading.specs.Regex.{hashed, r_word, regex_literal, regex_literal_by}
 use Rattle.reading.specs.Symbols.{arrow_code, equals, right_arrow, single, singles}
 use Rattle.reading.specs.Words.{identifier_by, identifierish, spells, use_token, use_word, word_token}
-use Rattle.reading.specs.declared.Attempt.{Attempt}
-use Rattle.reading.specs.declared.Attempt.TheVariants.{Closed, Failed}
+use Rattle.reading.specs.Shapes.{Attempt}
 use Rattle.reading.specs.declared.Call.{Call}
 use Rattle.kept.specs.Covers.{code_same, no}
 use Rattle.kept.specs.Places.{arrow_meets, code_meets, equals_meets, first_meets, followed, meets, meets_by, some, token_meets, word_meets, word_meets_by}
@@ -78,8 +75,8 @@ unfolding word_meets identifierish
 identifier_one front o cs at e = go (seek Word cs at) e
   where
     go : (f : Found) → word_meets_by front o cs f ≡ false → One (identifier_by Old front o cs f) (identifier_by Kept front o cs f)
-    go (At p m) e = one_more m _ _ (word_one front o (drop m cs) p e)
-    go (Nothing p m) e = one_more m _ _ (word_one front o (drop m cs) p e)
+    go (Ok (p, m)) e = one_more m _ _ (word_one front o (drop m cs) p e)
+    go (Err (p, m)) e = one_more m _ _ (word_one front o (drop m cs) p e)
 
 -- a word that starts with r is not `use`
 r_word_lem : (l : List ℕ) (o : ℕ) (cs : List ℕ) (at : ℕ) → word_meets ('r ∷ l) o cs at ≡ false
@@ -87,8 +84,8 @@ unfolding word_meets spells
 r_word_lem l o cs at = go (seek Word cs at)
   where
     go : (f : Found) → word_meets_by ('r ∷ l) o cs f ≡ false
-    go (At p m) = refl
-    go (Nothing p m) = refl
+    go (Ok (p, m)) = refl
+    go (Err (p, m)) = refl
 
 module _ (l : List ℕ) (o : ℕ) where
   hashed-one : (h : ℕ) (cs : List ℕ) (p : ℕ) → One (hashed Old ('r ∷ l) o h cs p) (hashed Kept ('r ∷ l) o h cs p)
@@ -103,8 +100,8 @@ module _ (l : List ℕ) (o : ℕ) where
   regex_one cs at = go (seek Hashes cs at)
     where
       go : (f : Found) → One (regex_literal_by Old ('r ∷ l) o cs f) (regex_literal_by Kept ('r ∷ l) o cs f)
-      go (At p m) = one_more m _ _ (hashed-one m (drop m cs) p)
-      go (Nothing p m) = one_same _
+      go (Ok (p, m)) = one_more m _ _ (hashed-one m (drop m cs) p)
+      go (Err (p, m)) = one_same _
 
   r_one : (cs : List ℕ) (at : ℕ) → One (r_word Old ('r ∷ l) o cs at) (r_word Kept ('r ∷ l) o cs at)
   unfolding r_word if_next
@@ -124,8 +121,8 @@ unfolding hash attribute_token
 hash-one o cs at e = go (attempt cs at) e
   where
     go : (x : Attempt) → followed cs x ≡ false → One (hash_by Old o cs at x) (hash_by Kept o cs at x)
-    go (Closed p m) e = record { is = rw (nothing_dropped (drop m cs) e) }
-    go (Failed p m) e = one_same _
+    go (Ok (p, m)) e = record { is = rw (nothing_dropped (drop m cs) e) }
+    go (Err (p, m)) e = one_same _
 
 -- ---- the dispatch
 module _ (c : ℕ) (cs : List ℕ) (o at : ℕ) (e : token_meets c cs o at ≡ false) where
@@ -174,5 +171,5 @@ unfolding meets next
 one-call cs at e = go (gap cs at) e
   where
     go : (x : Skip) → meets_by cs x ≡ false → next_by Old cs x (gap_depth_of cs at) ≡ next_by Kept cs x (gap_depth_of cs at)
-    go (Past p m) e = ap (told (gap_depth_of cs at)) (ap (more m) (first_one (drop m cs) p e).is)
-    go (Lost r p m) e = refl
+    go (Ok (p, m)) e = ap (told (gap_depth_of cs at)) (ap (more m) (first_one (drop m cs) p e).is)
+    go (Err (r, p, m)) e = refl

@@ -1,6 +1,6 @@
 -- CODE: where it meets neither of its two places, the two readings see the same in it.
 use Prim.Native.Nat.{◌+◌, ◌≤◌, suc, zero, ℕ}
-use Rattle.std.proofs.Common.{arith, ◌∙◌, ap, length-drop, eqb-true, ne_eqb}
+use Rattle.std.proofs.Common.{arith, ◌∙◌, ap, length-drop, eqb-true, ne_eqb, Ok, Err}
 use Rattle.std.specs.Prelude.{Bool, ◌||◌, cond, true, ◌≡◌, eqb, drop, length}
 use Rattle.std.proofs.Math.Bool.{false}
 use mathlib.Core.List.{List, [], ◌∷◌}
@@ -15,10 +15,8 @@ use Rattle.scan.specs.Passes.{quote_past}
 use Rattle.scan.specs.Runs.{neither}
 use Rattle.scan.specs.Seek.{seek, skip_more}
 use Rattle.scan.specs.Walk.{walk_from}
-use Rattle.scan.specs.declared.Found.{Found}
-use Rattle.scan.specs.declared.Found.TheVariants.{At, Nothing}
-use Rattle.scan.specs.declared.Skip.{Skip}
-use Rattle.scan.specs.declared.Skip.TheVariants.{Lost, Past}
+use Rattle.scan.specs.Shapes.{Found}
+use Rattle.scan.specs.Shapes.{Skip}
 use Rattle.scan.specs.declared.Sought.TheVariants.{Quote}
 use Rattle.scan.specs.declared.Turn.{Turn}
 use Rattle.scan.specs.declared.Turn.TheVariants.{Fail, Pass, Stop}
@@ -31,10 +29,10 @@ no e = let w : ◌≡◌ {A = ℕ} 0 1 = cc in absurd (omega arith)
 -- ---- quotes
 -- what is passed before a cover is passed of the text too
 ends_more : (n : ℕ) (cs : List ℕ) (x : Skip) → n ≤ length cs → ends_text cs (skip_more n x) ≡ false → ends_text (drop n cs) x ≡ false
-ends_more n cs (Past p m) h e =
+ends_more n cs (Ok (p, m)) h e =
     let d = eqb-false (n + m) (length cs) e in
     ne_eqb m (length (drop n cs)) (λ z. d (omega (arith, z, length-drop n cs)))
-ends_more n cs (Lost r p m) h e = refl
+ends_more n cs (Err (r, p, m)) h e = refl
 
 end_same : (o : ℕ) (cs : List ℕ) (at : ℕ) → ends_text cs (quote_end Kept o cs at) ≡ false → quote_end Old o cs at ≡ quote_end Kept o cs at
 unfolding quote_end quote_last
@@ -47,7 +45,7 @@ one_same o [] at e = end_same o [] at e
 one_same o (c ∷ cs) at e = go (eqb c 'quote) refl
   where
     go : (b : Bool) → eqb c 'quote ≡ b
-        → cond (eqb c 'quote) (skip_more 1 (quote_end Old o cs (at + width_of c))) (Past at 0) ≡ cond (eqb c 'quote) (skip_more 1 (quote_end Kept o cs (at + width_of c))) (Past at 0)
+        → cond (eqb c 'quote) (skip_more 1 (quote_end Old o cs (at + width_of c))) (Ok (at, 0)) ≡ cond (eqb c 'quote) (skip_more 1 (quote_end Kept o cs (at + width_of c))) (Ok (at, 0))
     go true q = rw q (ap (skip_more 1) (end_same o cs (at + width_of c) (ends_more 1 (c ∷ cs) (quote_end Kept o cs (at + width_of c)) (omega arith) (rw q at e))))
     go false q = rw q
 
@@ -57,11 +55,11 @@ esc_same o [] at e = refl
 esc_same o (c ∷ cs) at e = ap (skip_more 1) (go (seek Quote cs (at + width_of c)) refl (ends_more 1 (c ∷ cs) (esc_past Kept o cs (seek Quote cs (at + width_of c))) (omega arith) e))
   where
     go : (f : Found) → seek Quote cs (at + width_of c) ≡ f → ends_text cs (esc_past Kept o cs (seek Quote cs (at + width_of c))) ≡ false → esc_past Old o cs f ≡ esc_past Kept o cs f
-    go (At p m) q h =
+    go (Ok (p, m)) q h =
         let k = quote_past cs (at + width_of c) p m q in
-        let g : ends_text cs (esc_past Kept o cs (At p m)) ≡ false = rw q at h in
+        let g : ends_text cs (esc_past Kept o cs (Ok (p, m))) ≡ false = rw q at h in
         ap (skip_more (m + 1)) (end_same o (drop (m + 1) cs) (p + 1) (ends_more (m + 1) cs (quote_end Kept o (drop (m + 1) cs) (p + 1)) k.within g))
-    go (Nothing p m) q h = refl
+    go (Err (p, m)) q h = refl
 
 quote_same : (o : ℕ) (cs : List ℕ) (at : ℕ) → ends_text cs (quote_skip Kept o cs at) ≡ false → quote_skip Old o cs at ≡ quote_skip Kept o cs at
 unfolding quote_skip

@@ -1,6 +1,6 @@
 -- THE THREE PLACES where the old reading and the kept one differ. 02, E5: "nothing is passed after an attribute's bracket, a regex in code needs its true number of hashes with
 -- its 5 placed at its `r`, and in code a closed quoted literal, or a quote and one character, may end the text". Whether a call meets one of them; the theorem is in Theorems.
-use Rattle.std.specs.Prelude.{◌+◌, suc, zero, ℕ, Bool, ◌&&◌, ◌||◌, cond, false, not, true, List, [], ◌∷◌, eqb, drop, length}
+use Rattle.std.specs.Prelude.{◌+◌, suc, zero, ℕ, Bool, ◌&&◌, ◌||◌, cond, false, not, true, List, [], ◌∷◌, eqb, drop, length, Ok, Err}
 use Rattle.utf8.specs.Chars.{'#, '=, '>, '?, 'at, 'quote, 'r}
 use Rattle.utf8.specs.Utf8.{width_of}
 use Rattle.unicode_xid.specs.Identifier.{is_identifier_start}
@@ -8,10 +8,8 @@ use Rattle.record.specs.declared.Reading.TheVariants.{Kept, Old}
 use Rattle.scan.specs.IfNext.{if_next}
 use Rattle.scan.specs.Seek.{seek}
 use Rattle.scan.specs.Until.{left}
-use Rattle.scan.specs.declared.Found.{Found}
-use Rattle.scan.specs.declared.Found.TheVariants.{At, Nothing}
-use Rattle.scan.specs.declared.Skip.{Skip}
-use Rattle.scan.specs.declared.Skip.TheVariants.{Lost, Past}
+use Rattle.scan.specs.Shapes.{Found}
+use Rattle.scan.specs.Shapes.{Skip}
 use Rattle.scan.specs.declared.Sought.TheVariants.{Word}
 use Rattle.scan.specs.declared.Turn.TheVariants.{Fail, Pass, Stop}
 use Rattle.code.specs.Code.{code_turn, quote_skip}
@@ -19,8 +17,7 @@ use Rattle.reading.specs.Attribute.{attempt}
 use Rattle.reading.specs.Gaps.{gap}
 use Rattle.reading.specs.Next.{next}
 use Rattle.reading.specs.Words.{spells, use_word}
-use Rattle.reading.specs.declared.Attempt.{Attempt}
-use Rattle.reading.specs.declared.Attempt.TheVariants.{Closed, Failed}
+use Rattle.reading.specs.Shapes.{Attempt}
 use Rattle.reading.specs.declared.What.{What}
 use Rattle.reading.specs.declared.What.TheVariants.{End, Error, Got}
 
@@ -30,13 +27,13 @@ some [] = false
 some (c ∷ cs) = true
 
 abbrev pub followed : List ℕ → Attempt → Bool
-followed cs (Closed p m) = some (drop m cs)
-followed cs (Failed p m) = false
+followed cs (Ok (p, m)) = some (drop m cs)
+followed cs (Err (p, m)) = false
 
 -- a quoted literal in code that ends the text: its cover passes all the characters cs after its quote
 abbrev pub ends_text : List ℕ → Skip → Bool
-ends_text cs (Past p m) = eqb m (length cs)
-ends_text cs (Lost r p m) = false
+ends_text cs (Ok (p, m)) = eqb m (length cs)
+ends_text cs (Err (r, p, m)) = false
 
 -- what the character c of code starts: such a literal, or an `r#`
 unfoldable pub differs : ℕ → List ℕ → ℕ → ℕ → Bool
@@ -62,8 +59,8 @@ unfoldable pub equals_meets : List ℕ → ℕ → Bool
 equals_meets cs at = if_next '= cs false (if_next '> cs (arrow_meets (drop 1 cs) (at + 1)) false)
 
 abbrev pub word_meets_by : List ℕ → ℕ → List ℕ → Found → Bool
-word_meets_by whole o cs (At p m) = cond (spells use_word whole o p) (code_meets (drop m cs) p) false
-word_meets_by whole o cs (Nothing p m) = cond (spells use_word whole o p) (code_meets (drop m cs) p) false
+word_meets_by whole o cs (Ok (p, m)) = cond (spells use_word whole o p) (code_meets (drop m cs) p) false
+word_meets_by whole o cs (Err (p, m)) = cond (spells use_word whole o p) (code_meets (drop m cs) p) false
 
 unfoldable pub word_meets : List ℕ → ℕ → List ℕ → ℕ → Bool
 word_meets whole o cs at = word_meets_by whole o cs (seek Word cs at)
@@ -80,8 +77,8 @@ first_meets (c ∷ cs) o = token_meets c cs o (o + width_of c)
 
 -- A CALL MEETS ONE
 abbrev pub meets_by : List ℕ → Skip → Bool
-meets_by cs (Past p m) = first_meets (drop m cs) p
-meets_by cs (Lost r p m) = false
+meets_by cs (Ok (p, m)) = first_meets (drop m cs) p
+meets_by cs (Err (r, p, m)) = false
 
 unfoldable pub meets : List ℕ → ℕ → Bool
 meets cs at = meets_by cs (gap cs at)

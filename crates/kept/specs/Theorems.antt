@@ -1,15 +1,13 @@
 -- ONE STORY IN BOTH READINGS. Where neither meets one of the three places (Places), they are equal in every field: of one call, of the public single call, and of a
 -- whole run. The tokenizer tells which reading it is in; all else that they answer and leave is one. Each theorem of a public call takes what its contract allows.
 use Prim.Native.Nat.{◌+◌, ◌-◌, suc, zero, ℕ}
-use Rattle.std.specs.Prelude.{Bool, ◌&&◌, not, List, ◌≡◌, ltb, length}
+use Rattle.std.specs.Prelude.{Bool, ◌&&◌, not, List, ◌≡◌, ltb, length, Result, Ok, Err}
 use Rattle.std.proofs.Math.Bool.{cond, false, true}
 use Rattle.std.proofs.Common.{◌∙◌, ap, sym}
 use Rattle.std.proofs.Math.Path.{refl}
 use Rattle.utf8.specs.Utf8.{boundary}
 use Rattle.record.specs.Checks.{checks}
 use Rattle.record.specs.Records.{over, refusal}
-use Rattle.record.specs.declared.Checked.{Checked}
-use Rattle.record.specs.declared.Checked.TheVariants.{Passed, Refused as Stopped}
 use Rattle.record.specs.declared.Code.TheVariants.{BadRecord}
 use Rattle.record.specs.declared.Reading.{Reading}
 use Rattle.record.specs.declared.Reading.TheVariants.{Kept, Old}
@@ -32,6 +30,7 @@ use Rattle.callers.specs.PublicCalls.{Nexts, RunsFrom}
 use Rattle.kept.specs.Calls.{one-call}
 use Rattle.kept.specs.Covers.{no}
 use Rattle.kept.specs.Places.{calm, further, meets}
+use Rattle.record.specs.declared.Refusal.{Refusal}
 
 -- the same tokenizer in another reading, and the same answers
 abbrev pub in_reading : Reading → Tokenizer → Tokenizer
@@ -134,9 +133,9 @@ module _ (s : List ℕ) (shift limit : ℕ) where
       by true = step_same t e
       by false = refl
 
-      go : (c : Checked) → step_if c s shift limit (in_reading Kept t) ≡ stepped_in Kept (step_if c s shift limit (in_reading Old t))
-      go Passed = by (boundary s t.at)
-      go (Stopped z) = refl
+      go : (c : Result Unit Refusal) → step_if c s shift limit (in_reading Kept t) ≡ stepped_in Kept (step_if c s shift limit (in_reading Old t))
+      go (Ok tt) = by (boundary s t.at)
+      go (Err z) = refl
 
   whole_same : (room : ℕ) (t : Tokenizer) → calm (suc (length s)) s t.at ≡ true → whole_run s shift limit room (in_reading Kept t) ≡ run_in Kept (whole_run s shift limit room (in_reading Old t))
   unfolding whole_run_with
@@ -147,9 +146,9 @@ module _ (s : List ℕ) (shift limit : ℕ) where
       by true = run-same room t e
       by false = refl
 
-      go : (c : Checked) → run_if c s shift limit room (in_reading Kept t) ≡ run_in Kept (run_if c s shift limit room (in_reading Old t))
-      go Passed = by (boundary s t.at)
-      go (Stopped z) = refl
+      go : (c : Result Unit Refusal) → run_if c s shift limit room (in_reading Kept t) ≡ run_in Kept (run_if c s shift limit room (in_reading Old t))
+      go (Ok tt) = by (boundary s t.at)
+      go (Err z) = refl
 
 -- ---- THE THEOREMS
 -- ONE CALL (Calls): `one-call : meets cs at ≡ false → next Old cs at ≡ next Kept cs at`

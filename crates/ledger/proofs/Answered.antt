@@ -1,7 +1,7 @@
 -- WHAT A CALL CAN ANSWER (specs/Answered.antt), by a walk of all its readers, once for every question: what holds of the eight refusals that they
 -- name, and of the tokens that they make, holds of every answer.
 use Prim.Native.Nat.{◌+◌, ◌-◌, suc, zero, ℕ}
-use Rattle.std.specs.Prelude.{Bool, cond, ◌≡◌, drop}
+use Rattle.std.specs.Prelude.{Bool, cond, ◌≡◌, drop, Ok, Err}
 use Rattle.std.proofs.Math.Bool.{false, true}
 use mathlib.Core.List.{List, [], ◌∷◌}
 use Rattle.std.proofs.Math.Path.{refl}
@@ -22,10 +22,8 @@ use Rattle.scan.specs.IfNext.{if_next}
 use Rattle.scan.specs.Readers.{regex_end, string_end}
 use Rattle.scan.specs.Seek.{seek, skip_more, through, up_to}
 use Rattle.scan.specs.Walk.{turn_of, walk_from}
-use Rattle.scan.specs.declared.Found.{Found}
-use Rattle.scan.specs.declared.Found.TheVariants.{At, Nothing}
-use Rattle.scan.specs.declared.Skip.{Skip}
-use Rattle.scan.specs.declared.Skip.TheVariants.{Lost, Past}
+use Rattle.scan.specs.Shapes.{Found}
+use Rattle.scan.specs.Shapes.{Skip}
 use Rattle.scan.specs.declared.Sought.TheVariants.{Backtick, Hashes, Quote, Word}
 use Rattle.scan.specs.declared.Turn.{Turn}
 use Rattle.scan.specs.declared.Turn.TheVariants.{Fail, Pass, Stop}
@@ -38,8 +36,7 @@ use Rattle.reading.specs.Quotes.{char_literal, escape, lifetime_by, lifetimeish,
 use Rattle.reading.specs.Regex.{hashed, r_word, regex_by, regex_literal, regex_literal_by, regex_token}
 use Rattle.reading.specs.Symbols.{arrow_code, arrow_look, bang, colon, dot, equals, half, look, minus, right_arrow, single, singles, stray, tilde}
 use Rattle.reading.specs.Words.{code_token, id_token, identifier_by, identifierish, keyword_token, keywords, spells, use_token, word_token}
-use Rattle.reading.specs.declared.Attempt.{Attempt}
-use Rattle.reading.specs.declared.Attempt.TheVariants.{Closed, Failed}
+use Rattle.reading.specs.Shapes.{Attempt}
 use Rattle.reading.specs.declared.Call.{Call}
 use Rattle.reading.specs.declared.What.{What}
 use Rattle.reading.specs.declared.What.TheVariants.{End, Error, Got}
@@ -81,23 +78,23 @@ module _ (rd : Reading) (P : Token → Type 0) (Q : Code → Type 0)
   lose_next k [] x y p q = q
   lose_next k (c ∷ l) x y p q = lose_test (eqb c k) x y p q
 
-  lose_past : (p m : ℕ) → Loses Q (Past p m)
+  lose_past : (p m : ℕ) → Loses Q (Ok (p, m))
   lose_past p m = record { is = tt }
 
-  lose_lost : (code : Code) (place p m : ℕ) → Q code → Loses Q (Lost (refusal code place) p m)
+  lose_lost : (code : Code) (place p m : ℕ) → Q code → Loses Q (Err (refusal code place, p, m))
   lose_lost code place p m e = record { is = e }
 
   lose_more : (n : ℕ) (x : Skip) → Loses Q x → Loses Q (skip_more n x)
-  lose_more n (Past p m) h = record { is = tt }
-  lose_more n (Lost r p m) h = record { is = h.is }
+  lose_more n (Ok (p, m)) h = record { is = tt }
+  lose_more n (Err (r, p, m)) h = record { is = h.is }
 
   lose_through : (code : Code) (o : ℕ) (f : Found) → Q code → Loses Q (through code o f)
-  lose_through code o (At p m) e = record { is = tt }
-  lose_through code o (Nothing p m) e = record { is = e }
+  lose_through code o (Ok (p, m)) e = record { is = tt }
+  lose_through code o (Err (p, m)) e = record { is = e }
 
   lose_upto : (f : Found) → Loses Q (up_to f)
-  lose_upto (At p m) = record { is = tt }
-  lose_upto (Nothing p m) = record { is = tt }
+  lose_upto (Ok (p, m)) = record { is = tt }
+  lose_upto (Err (p, m)) = record { is = tt }
 
   ruleset loses = (lose_test, lose_next, lose_past, lose_lost, lose_more, lose_through, lose_upto)
 
@@ -113,8 +110,8 @@ module _ (rd : Reading) (P : Token → Type 0) (Q : Code → Type 0)
   turn_pass p m b = record { is = tt }
 
   turn-skip : (b : ℕ) (x : Skip) → Loses Q x → Turns Q (turn_of b x)
-  turn-skip b (Past p m) h = record { is = tt }
-  turn-skip b (Lost r p m) h = record { is = h.is }
+  turn-skip b (Ok (p, m)) h = record { is = tt }
+  turn-skip b (Err (r, p, m)) h = record { is = h.is }
 
   ruleset turn_loses = (turn-test, turn-stop, turn_pass, turn-skip)
 
@@ -159,8 +156,8 @@ module _ (rd : Reading) (P : Token → Type 0) (Q : Code → Type 0)
     esc_loses (c ∷ cs) at = lose_more 1 _ (go (seek Quote cs (at + width_of c)))
       where
         go : (f : Found) → Loses Q (esc_past rd o cs f)
-        go (At p m) = lose_more (m + 1) _ (end_loses (drop (m + 1) cs) (p + 1))
-        go (Nothing p m) = lose_lost _ o p m q6
+        go (Ok (p, m)) = lose_more (m + 1) _ (end_loses (drop (m + 1) cs) (p + 1))
+        go (Err (p, m)) = lose_lost _ o p m q6
 
     quote_loses : (cs : List ℕ) (at : ℕ) → Loses Q (quote_skip rd o cs at)
     unfolding quote_skip
@@ -176,8 +173,8 @@ module _ (rd : Reading) (P : Token → Type 0) (Q : Code → Type 0)
     hash_loses cs at = go (seek Hashes cs at)
       where
         go : (f : Found) → Loses Q (hash_past rd o cs f)
-        go (At p m) = lose_more m _ (body_loses m (drop m cs) p)
-        go (Nothing p m) = lose_lost _ o p m q5
+        go (Ok (p, m)) = lose_more m _ (body_loses m (drop m cs) p)
+        go (Err (p, m)) = lose_lost _ o p m q5
 
   r_loses : (r : ℕ) (cs : List ℕ) (at : ℕ) → Loses Q (r_skip rd r cs at)
   unfolding r_skip
@@ -247,8 +244,8 @@ module _ (rd : Reading) (P : Token → Type 0) (Q : Code → Type 0)
     colon_says = search says
 
     code-token_says : (kind : Kind) (x : Skip) (d : ℕ) → has_payload kind ≡ true → is_string kind ≡ false → Loses Q x → Says P Q (code_token kind o at x d)
-    code-token_says kind (Past p m) d k s h = record { is = (says_deliver kind o at p p m k s).is }
-    code-token_says kind (Lost r p m) d k s h = record { is = h.is }
+    code-token_says kind (Ok (p, m)) d k s h = record { is = (says_deliver kind o at p p m k s).is }
+    code-token_says kind (Err (r, p, m)) d k s h = record { is = h.is }
 
     pub arrow_code_says : (kind : Kind) → has_payload kind ≡ true → is_string kind ≡ false → Says P Q (arrow_code rd kind o cs at)
     unfolding arrow_code
@@ -272,8 +269,8 @@ module _ (rd : Reading) (P : Token → Type 0) (Q : Code → Type 0)
     word_says w = let u = use_says in let v = keyword_says keywords w keywords-plain in search says
 
     quoted_says : (kind : Kind) (code : Code) (f : Found) → has_payload kind ≡ true → is_string kind ≡ false → Q code → Says P Q (string_or_char_literal kind code o at f)
-    quoted_says kind code (At p m) k s e = says_deliver kind o at p (p + 1) (m + 1) k s
-    quoted_says kind code (Nothing p m) k s e = says_refuse code o p m e
+    quoted_says kind code (Ok (p, m)) k s e = says_deliver kind o at p (p + 1) (m + 1) k s
+    quoted_says kind code (Err (p, m)) k s e = says_refuse code o p m e
 
     pub escape_says : Says P Q (escape o cs at)
     unfolding among escape
@@ -285,16 +282,16 @@ module _ (rd : Reading) (P : Token → Type 0) (Q : Code → Type 0)
 
     lifetime_says : (f : Found) → Says P Q (lifetime_by o cs at f)
     unfolding among
-    lifetime_says (At p m) = search says
-    lifetime_says (Nothing p m) = says_deliver _ o o p p m refl refl
+    lifetime_says (Ok (p, m)) = search says
+    lifetime_says (Err (p, m)) = says_deliver _ o o p p m refl refl
 
     regex_says : (n : ℕ) → Says P Q (regex_token o n cs at)
     unfolding among regex_token
     regex_says n = go (regex_end n cs at)
       where
         go : (f : Found) → Says P Q (regex_by o n at f)
-        go (At p m) = says_deliver _ o at (p - n) (p + 1) (m + 1) refl refl
-        go (Nothing p m) = says_refuse _ o p m q5
+        go (Ok (p, m)) = says_deliver _ o at (p - n) (p + 1) (m + 1) refl refl
+        go (Err (p, m)) = says_refuse _ o p m q5
 
   module _ (o : ℕ) where
     pub lifetimeish_says : (cs : List ℕ) (at : ℕ) → Says P Q (lifetimeish o cs at)
@@ -307,8 +304,8 @@ module _ (rd : Reading) (P : Token → Type 0) (Q : Code → Type 0)
     identifier_says front cs at = go (seek Word cs at)
       where
         go : (f : Found) → Says P Q (identifier_by rd front o cs f)
-        go (At p m) = says_more m _ (word_says o (drop m cs) p front)
-        go (Nothing p m) = says_more m _ (word_says o (drop m cs) p front)
+        go (Ok (p, m)) = says_more m _ (word_says o (drop m cs) p front)
+        go (Err (p, m)) = says_more m _ (word_says o (drop m cs) p front)
 
     hashed_says : (front : List ℕ) (n : ℕ) (cs : List ℕ) (p : ℕ) → Says P Q (hashed rd front o n cs p)
     unfolding hashed
@@ -322,8 +319,8 @@ module _ (rd : Reading) (P : Token → Type 0) (Q : Code → Type 0)
     regex_literal_says front cs at = go (seek Hashes cs at)
       where
         go : (f : Found) → Says P Q (regex_literal_by rd front o cs f)
-        go (At p m) = says_more m _ (hashed_says front m (drop m cs) p)
-        go (Nothing p m) = says_refuse _ o p m q5
+        go (Ok (p, m)) = says_more m _ (hashed_says front m (drop m cs) p)
+        go (Err (p, m)) = says_refuse _ o p m q5
 
     pub r_says : (front cs : List ℕ) (at : ℕ) → Says P Q (r_word rd front o cs at)
     unfolding r_word
@@ -335,8 +332,8 @@ module _ (rd : Reading) (P : Token → Type 0) (Q : Code → Type 0)
     hash_says cs at = go (attempt cs at)
       where
         go : (x : Attempt) → Says P Q (hash_by rd o cs at x)
-        go (Closed p m) = says_more m _ (record { is = rich _ o p o p refl refl })
-        go (Failed p m) = says_plain _ o at m refl
+        go (Ok (p, m)) = says_more m _ (record { is = rich _ o p o p refl refl })
+        go (Err (p, m)) = says_plain _ o at m refl
 
     single_says : (ks : List (ℕ × Kind)) (c at : ℕ) (x : Call) → AllPlain ks → Says P Q x → Says P Q (single ks c o at x)
     unfolding single
@@ -349,8 +346,8 @@ module _ (rd : Reading) (P : Token → Type 0) (Q : Code → Type 0)
     string_says o cs at = go (string_end 34 cs at)
       where
         go : (f : Found) → Says P Q (string_or_char_literal StringLiteral UnterminatedStringLiteral o at f)
-        go (At p m) = record { is = strings o (p + 1) at p }
-        go (Nothing p m) = says_refuse _ o p m q5
+        go (Ok (p, m)) = record { is = strings o (p + 1) at p }
+        go (Err (p, m)) = says_refuse _ o p m q5
 
   -- ---- the two kinds of unknown, and what may answer them
   module _ (q22 : Q HalfSymbol) (q23 : Q StrayCharacter) where
@@ -436,5 +433,5 @@ module _ (rd : Reading) (P : Token → Type 0) (Q : Code → Type 0)
         next_says cs at = go (gap cs at) (gap_loses cs at)
           where
             go : (x : Skip) → Loses Q x → Says P Q (next_by rd cs x (gap_depth_of cs at))
-            go (Past p m) h = says_told _ _ (says_more m _ (token_says p (drop m cs)))
-            go (Lost r p m) h = record { is = h.is }
+            go (Ok (p, m)) h = says_told _ _ (says_more m _ (token_says p (drop m cs)))
+            go (Err (r, p, m)) h = record { is = h.is }

@@ -1,10 +1,9 @@
 -- PAYLOADS (specs/Payloads.antt). Of every token of every run: its payload lies in its span, on boundaries of the text, so that its check passes.
-use Rattle.std.specs.Prelude.{ℕ, zero, suc, ◌+◌, ◌-◌, ◌≤◌, ◌<◌, true, List, [], ◌∷◌, ◌≡◌, get_or, length}
+use Rattle.std.specs.Prelude.{ℕ, zero, suc, ◌+◌, ◌-◌, ◌≤◌, ◌<◌, true, List, [], ◌∷◌, ◌≡◌, get_or, length, Ok}
 use native.Mathlib.Omega.{arith}
 use borrow.Author.Tests.{le-ltb}
 use Rattle.utf8.proofs.Laws.{boundary-whole}
 use Rattle.utf8.specs.Utf8.{boundary}
-use Rattle.record.specs.declared.Checked.TheVariants.{Passed}
 use Rattle.record.specs.declared.Reading.{Reading}
 use Rattle.record.specs.declared.Token.{Token}
 use Rattle.scan.specs.Until.{left}
@@ -24,7 +23,7 @@ use Rattle.ledger.specs.Payloads.{AllHeld, Held, On, on-boundary, on_far}
 -- ---- so the payload of a call's token is one of the text
 module _ (s : List ℕ) (shift : ℕ) where
   passes : (t : Token) → t.payload_start ≤ t.payload_end → boundary s t.payload_start ≡ true → boundary s t.payload_end ≡ true
-      → payload_check s shift (shift_token shift t) ≡ Passed
+      → payload_check s shift (shift_token shift t) ≡ Ok tt
   unfolding payload_check is_payload
   passes t l a b =
       let p : t.payload_start + shift - shift ≡ t.payload_start = omega arith in

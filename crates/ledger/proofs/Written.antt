@@ -1,5 +1,5 @@
 -- What a run with shift 0 delivers is never refused by the LTK writer for 20: of its refusals 14 alone is left, for a short buffer.
-use Rattle.std.specs.Prelude.{ℕ, ◌+◌, ◌≤◌, ◌<◌, Bool, true, false, List, [], ◌∷◌, map, ◌≡◌, refl, ltb}
+use Rattle.std.specs.Prelude.{ℕ, ◌+◌, ◌≤◌, ◌<◌, Bool, true, false, List, [], ◌∷◌, map, ◌≡◌, refl, ltb, Ok, Err}
 use Rattle.std.proofs.Common.{arith, sym, ◌∙◌, lt-ltb, le-ltb}
 use Rattle.std.proofs.Math.Path.{ap}
 use Rattle.std.proofs.Math.ListN.{length}
@@ -19,7 +19,6 @@ use Rattle.run.specs.Checked.{whole_run}
 use Rattle.ltk.specs.Faithful.{passing-answer}
 use Rattle.ltk.specs.Layout.{count_limit, last_kind, record_place}
 use Rattle.ltk.specs.Ltk.{bad, bytes_for, entry_of, passing, records_ok, write_answer}
-use Rattle.ltk.specs.declared.Answer.TheVariants.{Done, Refused}
 use Rattle.ledger.specs.Order.{Ordered, at-most-left, of_run}
 use Rattle.ledger.proofs.Order.{ordered}
 use Rattle.ledger.specs.Written.{kind_small}
@@ -50,22 +49,22 @@ module _ (s : List ℕ) (limit room : ℕ) (t : Tokenizer) where
       (λ a b c h. let f = fits s t.at in omega (arith, a.short)) (at-most-left s 0 limit room t)
 
   -- the writer's answer: 14 for a short buffer, and else the file
-  pub written : (size : ℕ) → write_answer (map entry_of ran) size ≡ bytes_for size (Done (length ran))
+  pub written : (size : ℕ) → write_answer (map entry_of ran) size ≡ bytes_for size (Ok (length ran))
   written size =
       let l = length-map ran entry_of in
       passing-answer (map entry_of ran) size records_ok_lem ∙ rw (l, lt-ltb (length ran) count_limit count_ok)
 
-  pub never_bad_record : (size : ℕ) (r : Refusal) → write_answer (map entry_of ran) size ≡ Refused r → r.code ≡ BadRecord → ⊥
+  pub never_bad_record : (size : ℕ) (r : Refusal) → write_answer (map entry_of ran) size ≡ Err r → r.code ≡ BadRecord → ⊥
   never_bad_record size r e c = go (ltb size (record_place (length ran))) refl
     where
       go : (b : Bool) → ltb size (record_place (length ran)) ≡ b → ⊥
       go true q =
-          let f : Refused (refusal NoRoom 0) ≡ Refused r = rw q at (sym (written size) ∙ e) in
+          let f : Err (refusal NoRoom 0) ≡ Err r = rw q at (sym (written size) ∙ e) in
           let g : refusal NoRoom 0 ≡ r = cc in
           let h : NoRoom ≡ BadRecord = ap (λ (x : Refusal). x.code) g ∙ c in
           let z : ◌≡◌ {A = ℕ} 0 1 = cc in
           omega arith
       go false q =
-          let f : Done (record_place (length ran)) ≡ Refused r = rw q at (sym (written size) ∙ e) in
+          let f : Ok (record_place (length ran)) ≡ Err r = rw q at (sym (written size) ∙ e) in
           let z : ◌≡◌ {A = ℕ} 0 1 = cc in
           omega arith

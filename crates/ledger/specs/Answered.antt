@@ -1,5 +1,5 @@
 -- WHAT A CALL CAN ANSWER: the kinds with a payload, and what it is for an answer to hold. The walk of all readers is in proofs/Answered.antt.
-use Rattle.std.specs.Prelude.{Bool}
+use Rattle.std.specs.Prelude.{Bool, Ok, Err}
 use mathlib.Core.List.{[], ◌∷◌}
 use Rattle.std.proofs.Math.Dec.{eqb}
 use Rattle.record.specs.Codes.{among}
@@ -8,8 +8,7 @@ use Rattle.record.specs.declared.Code.{Code}
 use Rattle.record.specs.declared.Kind.{Kind}
 use Rattle.record.specs.declared.Kind.TheVariants.{CharLiteral, EqualsGreaterThanCode, EqualsGreaterThanQuestionCode, Escape, Id, Lifetime, MacroId, RegexLiteral, ShebangAttribute, StringLiteral, Use}
 use Rattle.record.specs.declared.Token.{Token}
-use Rattle.scan.specs.declared.Skip.{Skip}
-use Rattle.scan.specs.declared.Skip.TheVariants.{Lost, Past}
+use Rattle.scan.specs.Shapes.{Skip}
 use Rattle.reading.specs.declared.Call.{Call}
 use Rattle.reading.specs.declared.What.{What}
 use Rattle.reading.specs.declared.What.TheVariants.{End, Error, Got}
@@ -26,8 +25,8 @@ is_string kind = eqb (kind_number kind) (kind_number StringLiteral)
 
 -- what holds of the answers: P of a token, Q of a refusal's code
 abbrev pub LosesIn : (Code → Type 0) → Skip → Type 0
-LosesIn Q (Past p m) = Unit {0}
-LosesIn Q (Lost r p m) = Q r.code
+LosesIn Q (Ok (p, m)) = Unit {0}
+LosesIn Q (Err (r, p, m)) = Q r.code
 
 pub record Loses (Q : Code → Type 0) (x : Skip) : Type 0 where
   pub is : LosesIn Q x

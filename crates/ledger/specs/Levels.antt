@@ -1,6 +1,6 @@
 -- WHAT A TOKEN TELLS OF DEPTHS, by a walk of all readers of a call. 02, E4: "a record keeps two, for the gap before it and for its code". `use` and both `=>`
 -- take code, and tell its depth; of every other kind it is 0.
-use Rattle.std.specs.Prelude.{◌+◌, ◌-◌, ◌≤◌, ℕ, Bool, cond, drop, length}
+use Rattle.std.specs.Prelude.{◌+◌, ◌-◌, ◌≤◌, ℕ, Bool, cond, drop, length, Some, Ok, Err}
 use Rattle.std.proofs.Common.{arith, ◌∙◌, sym, length-drop, drop-drop, eqb-true}
 use Rattle.std.proofs.Math.Bool.{false, true}
 use mathlib.Core.List.{List, [], ◌∷◌}
@@ -15,7 +15,6 @@ use Rattle.record.specs.declared.Kind.{Kind}
 use Rattle.record.specs.declared.Kind.TheVariants.{EqualsGreaterThanCode, EqualsGreaterThanQuestionCode, Use}
 use Rattle.record.specs.declared.Refusal.{Refusal}
 use Rattle.record.specs.declared.Token.{Token}
-use Rattle.record.specs.declared.Told.TheVariants.{Is}
 use Rattle.record.specs.declared.Reading.{Reading}
 use Rattle.scan.specs.Far.{Far, far_left, far_none, one_far, then}
 use Rattle.scan.specs.IfNext.{if_next}
@@ -23,10 +22,8 @@ use Rattle.scan.specs.Passes.{Sound, seek-at, seek-none}
 use Rattle.scan.specs.Readers.{regex_end, string_end}
 use Rattle.scan.specs.Seek.{seek}
 use Rattle.scan.specs.Until.{left}
-use Rattle.scan.specs.declared.Found.{Found}
-use Rattle.scan.specs.declared.Found.TheVariants.{At, Nothing}
-use Rattle.scan.specs.declared.Skip.{Skip}
-use Rattle.scan.specs.declared.Skip.TheVariants.{Lost, Past}
+use Rattle.scan.specs.Shapes.{Found}
+use Rattle.scan.specs.Shapes.{Skip}
 use Rattle.scan.specs.declared.Sought.TheVariants.{Backtick, Hashes, Word}
 use Rattle.code.specs.Code.{code_depth_of, code_end}
 use Rattle.reading.specs.Answers.{deliver, fail, more, plain, refuse, told, told_what}
@@ -38,8 +35,7 @@ use Rattle.reading.specs.Quotes.{char_literal, escape, lifetime_by, lifetimeish,
 use Rattle.reading.specs.Regex.{hashed, r_word, regex_by, regex_literal, regex_literal_by, regex_token}
 use Rattle.reading.specs.Symbols.{arrow_code, arrow_look, bang, colon, dot, equals, half, look, minus, right_arrow, single, singles, stray, tilde}
 use Rattle.reading.specs.Words.{code_token, id_token, identifier_by, identifierish, keyword_token, keywords, spells, use_token, word_token}
-use Rattle.reading.specs.declared.Attempt.{Attempt}
-use Rattle.reading.specs.declared.Attempt.TheVariants.{Closed, Failed}
+use Rattle.reading.specs.Shapes.{Attempt}
 use Rattle.reading.specs.declared.Call.{Call}
 use Rattle.reading.specs.declared.What.{What}
 use Rattle.reading.specs.declared.What.TheVariants.{End, Error, Got}
@@ -69,8 +65,8 @@ no e = let w : ◌≡◌ {A = ℕ} 0 1 = cc in absurd (omega arith)
 -- ---- what a call tells, its token tells
 record Tells (cs : List ℕ) (at : ℕ) (x : Call) (t : Token) : Type 0 where
   gap_is : x.gap_depth ≡ gap_depth_of cs at
-  gap-tells : t.gap_depth ≡ Is x.gap_depth
-  code-tells : t.code_depth ≡ Is x.code_depth
+  gap-tells : t.gap_depth ≡ Some x.gap_depth
+  code-tells : t.code_depth ≡ Some x.code_depth
 
 -- in every reading
 module _ (rd : Reading) where
@@ -188,8 +184,8 @@ module _ (rd : Reading) where
     keyword_level (k ∷ ks) w h = level_test cs at (spells k.0 w o p) _ _ (level_plain cs at k.1 o p 0 h.0) (keyword_level ks w h.1)
 
     quoted_level : (kind : Kind) (code : Code) (f : Found) → takes_code kind ≡ false → Level cs at (string_or_char_literal kind code o p f)
-    quoted_level kind code (At q m) k = level_deliver cs at kind o p q (q + 1) (m + 1) k
-    quoted_level kind code (Nothing q m) k = level_refuse cs at code o q m
+    quoted_level kind code (Ok (q, m)) k = level_deliver cs at kind o p q (q + 1) (m + 1) k
+    quoted_level kind code (Err (q, m)) k = level_refuse cs at code o q m
 
     escape_level : Level cs at (escape o l p)
     unfolding among escape
@@ -205,24 +201,24 @@ module _ (rd : Reading) where
 
     lifetime_level : (f : Found) → Level cs at (lifetime_by o l p f)
     unfolding among
-    lifetime_level (At q m) = search levels
-    lifetime_level (Nothing q m) = level_deliver cs at _ o o q q m refl
+    lifetime_level (Ok (q, m)) = search levels
+    lifetime_level (Err (q, m)) = level_deliver cs at _ o o q q m refl
 
     regex_level : (n : ℕ) → Level cs at (regex_token o n l p)
     unfolding among regex_token
     regex_level n = go (regex_end n l p)
       where
         go : (f : Found) → Level cs at (regex_by o n p f)
-        go (At q m) = level_deliver cs at _ o p (q - n) (q + 1) (m + 1) refl
-        go (Nothing q m) = level_refuse cs at _ o q m
+        go (Ok (q, m)) = level_deliver cs at _ o p (q - n) (q + 1) (m + 1) refl
+        go (Err (q, m)) = level_refuse cs at _ o q m
 
     hash_level : Level cs at (hash rd o l p)
     unfolding among hash attribute_token
     hash_level = go (attempt l p)
       where
         go : (x : Attempt) → Level cs at (hash_by rd o l p x)
-        go (Closed q m) = level_more cs at m _ (record { is = (λ t. no (sym t), λ _. refl) })
-        go (Failed q m) = level_plain cs at _ o p m refl
+        go (Ok (q, m)) = level_more cs at m _ (record { is = (λ t. no (sym t), λ _. refl) })
+        go (Err (q, m)) = level_plain cs at _ o p m refl
 
   lifetimeish_level : (cs : List ℕ) (at o : ℕ) (l : List ℕ) (p : ℕ) → Level cs at (lifetimeish o l p)
   unfolding lifetimeish
@@ -239,8 +235,8 @@ module _ (rd : Reading) where
   module _ (o : ℕ) (cs : List ℕ) (at : ℕ) where
     code-token_level : (kind : Kind) (x : Skip) → takes_code kind ≡ true → Level cs at (code_token kind o at x (code_depth_of rd cs at))
     unfolding deliver
-    code-token_level kind (Past p m) k = record { is = (λ _. record { passed = 0; far = far_none cs at; depth = refl }, λ f. no (sym k ∙ f)) }
-    code-token_level kind (Lost r p m) k = level_fail cs at r p m
+    code-token_level kind (Ok (p, m)) k = record { is = (λ _. record { passed = 0; far = far_none cs at; depth = refl }, λ f. no (sym k ∙ f)) }
+    code-token_level kind (Err (r, p, m)) k = level_fail cs at r p m
 
     arrow_code_level : (kind : Kind) → takes_code kind ≡ true → Level cs at (arrow_code rd kind o cs at)
     unfolding arrow_code
@@ -285,8 +281,8 @@ module _ (rd : Reading) where
     identifier_level front cs at = go (seek Word cs at) refl
       where
         go : (f : Found) → seek Word cs at ≡ f → Level cs at (identifier_by rd front o cs f)
-        go (At p m) e = level_later cs at m p m _ (seek-at cs at p m Word e) (word_level o (drop m cs) p front)
-        go (Nothing p m) e = level_later cs at m p m _ (seek-none cs at p m Word e) (word_level o (drop m cs) p front)
+        go (Ok (p, m)) e = level_later cs at m p m _ (seek-at cs at p m Word e) (word_level o (drop m cs) p front)
+        go (Err (p, m)) e = level_later cs at m p m _ (seek-none cs at p m Word e) (word_level o (drop m cs) p front)
 
     hashed_level : (front : List ℕ) (n : ℕ) (cs : List ℕ) (p : ℕ) → Level cs p (hashed rd front o n cs p)
     unfolding hashed
@@ -300,8 +296,8 @@ module _ (rd : Reading) where
     regex_literal_level front cs at = go (seek Hashes cs at) refl
       where
         go : (f : Found) → seek Hashes cs at ≡ f → Level cs at (regex_literal_by rd front o cs f)
-        go (At p m) e = level_later cs at m p m _ (seek-at cs at p m Hashes e) (hashed_level front m (drop m cs) p)
-        go (Nothing p m) e = level_refuse cs at _ o p m
+        go (Ok (p, m)) e = level_later cs at m p m _ (seek-at cs at p m Hashes e) (hashed_level front m (drop m cs) p)
+        go (Err (p, m)) e = level_refuse cs at _ o p m
 
     r_level : (front cs : List ℕ) (at : ℕ) → Level cs at (r_word rd front o cs at)
     unfolding r_word
@@ -335,10 +331,10 @@ module _ (rd : Reading) where
   next_level cs at = go (gap cs at) refl (gap_sound cs at)
     where
       go : (x : Skip) → gap cs at ≡ x → Sound cs at (gap cs at) → Level cs at (next_by rd cs x (gap_depth_of cs at))
-      go (Past p m) e h =
+      go (Ok (p, m)) e h =
           let f : Far cs at m p = (rw e at h).is in
           level_told cs at (gap_depth_of cs at) _ (level_later cs at m p m _ f (token_level (drop m cs) p))
-      go (Lost r p m) e h = level_fail cs at r p m
+      go (Err (r, p, m)) e h = level_fail cs at r p m
 
   module _ (cs : List ℕ) (at : ℕ) (t : Token) where
     tells : (next rd cs at).what ≡ Got t → Tells cs at (next rd cs at) t
@@ -346,11 +342,11 @@ module _ (rd : Reading) where
     tells e = go (gap cs at) e
       where
         go : (x : Skip) → (next_by rd cs x (gap_depth_of cs at)).what ≡ Got t → Tells cs at (next_by rd cs x (gap_depth_of cs at)) t
-        go (Past p m) e =
+        go (Ok (p, m)) e =
             let y = more m (token_or_end rd (drop m cs) p) in
             let u = untold (gap_depth_of cs at) y.code_depth y.what t e in
             record { gap_is = refl; gap-tells = ap (λ (z : Token). z.gap_depth) u.with_depths; code-tells = ap (λ (z : Token). z.code_depth) u.with_depths }
-        go (Lost r p m) e = let w : ◌≡◌ {A = ℕ} 0 1 = cc in absurd (omega arith)
+        go (Err (r, p, m)) e = let w : ◌≡◌ {A = ℕ} 0 1 = cc in absurd (omega arith)
 
     level_got : (next rd cs at).what ≡ Got t → LevelIn cs at (next rd cs at).code_depth (Got t)
     level_got e = rw e at (next_level cs at).is
@@ -358,19 +354,19 @@ module _ (rd : Reading) where
   -- ---- THE THEOREMS. Of a token of the text s from the place at on
   module _ (s : List ℕ) (at : ℕ) (t : Token) (got : (next rd (left s at) at).what ≡ Got t) where
     -- it tells the depth of its gap
-    pub gap-told : t.gap_depth ≡ Is (gap_depth_of (left s at) at)
-    gap-told = let h = tells (left s at) at t got in h.gap-tells ∙ ap Is h.gap_is
+    pub gap-told : t.gap_depth ≡ Some (gap_depth_of (left s at) at)
+    gap-told = let h = tells (left s at) at t got in h.gap-tells ∙ ap Some h.gap_is
 
     -- a kind that takes code tells the depth of its code, which starts where its payload does
-    pub code-told : takes_code t.kind ≡ true → t.code_depth ≡ Is (code_depth_of rd (left s t.payload_start) t.payload_start)
+    pub code-told : takes_code t.kind ≡ true → t.code_depth ≡ Some (code_depth_of rd (left s t.payload_start) t.payload_start)
     code-told k =
         let h = (level_got (left s at) at t got).0 k in
         let f : drop h.passed (left s at) ≡ left s t.payload_start = far_left s at h.passed t.payload_start h.far in
-        (tells (left s at) at t got).code-tells ∙ ap Is (h.depth ∙ ap (λ (l : List ℕ). code_depth_of rd l t.payload_start) f)
+        (tells (left s at) at t got).code-tells ∙ ap Some (h.depth ∙ ap (λ (l : List ℕ). code_depth_of rd l t.payload_start) f)
 
     -- every other kind tells 0
-    pub flat-told : takes_code t.kind ≡ false → t.code_depth ≡ Is 0
-    flat-told k = (tells (left s at) at t got).code-tells ∙ ap Is ((level_got (left s at) at t got).1 k)
+    pub flat-told : takes_code t.kind ≡ false → t.code_depth ≡ Some 0
+    flat-told k = (tells (left s at) at t got).code-tells ∙ ap Some ((level_got (left s at) at t got).1 k)
 
   -- the end comes with the depth of the last gap
   pub last-told : (s : List ℕ) (at : ℕ) → (next rd (left s at) at).what ≡ End → (next rd (left s at) at).gap_depth ≡ gap_depth_of (left s at) at
@@ -378,12 +374,12 @@ module _ (rd : Reading) where
   last-told s at e = go (gap (left s at) at) e
     where
       go : (x : Skip) → (next_by rd (left s at) x (gap_depth_of (left s at) at)).what ≡ End → (next_by rd (left s at) x (gap_depth_of (left s at) at)).gap_depth ≡ gap_depth_of (left s at) at
-      go (Past p m) e = refl
-      go (Lost r p m) e = let w : ◌≡◌ {A = ℕ} 0 1 = cc in absurd (omega arith)
+      go (Ok (p, m)) e = refl
+      go (Err (r, p, m)) e = let w : ◌≡◌ {A = ℕ} 0 1 = cc in absurd (omega arith)
 
   -- both depths of a call that delivers a token are no greater than the characters there are, and its token tells both
   pub next_small : (cs : List ℕ) (at : ℕ) (t : Token) → (next rd cs at).what ≡ Got t
-      → ((next rd cs at).gap_depth ≤ length cs) × ((next rd cs at).code_depth ≤ length cs) × (t.gap_depth ≡ Is (next rd cs at).gap_depth) × (t.code_depth ≡ Is (next rd cs at).code_depth)
+      → ((next rd cs at).gap_depth ≤ length cs) × ((next rd cs at).code_depth ≤ length cs) × (t.gap_depth ≡ Some (next rd cs at).gap_depth) × (t.code_depth ≡ Some (next rd cs at).code_depth)
   next_small cs at t e = let h = tells cs at t e in (rw h.gap_is (gap-small cs at), code (takes_code t.kind) refl, h.gap-tells, h.code-tells)
     where
       code : (b : Bool) → takes_code t.kind ≡ b → (next rd cs at).code_depth ≤ length cs

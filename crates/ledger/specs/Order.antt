@@ -2,7 +2,7 @@
 -- characters. Of every run, ended or stopped by an error, 14 or 15, with any shift, limit and room, from any tokenizer. That tokens ascend is in
 -- proofs/Order.antt.
 use Prim.Native.Nat.{ℕ, zero, suc, ◌+◌, ◌-◌, ◌≤◌, ◌<◌}
-use Rattle.std.proofs.Common.{arith, sym, take_at}
+use Rattle.std.proofs.Common.{arith, sym, take_at, Result, Ok, Err}
 use Rattle.std.specs.Prelude.{Bool, List, [], ◌∷◌, ◌≡◌, ltb, take}
 use Rattle.std.proofs.Math.Bool.{true, false}
 use Rattle.std.proofs.Math.Path.{refl, ap}
@@ -11,8 +11,6 @@ use Rattle.utf8.specs.Utf8.{boundary, chars}
 use Rattle.record.specs.Allowed.{Allowed, allowed}
 use Rattle.record.specs.Checks.{checks}
 use Rattle.record.specs.Records.{over}
-use Rattle.record.specs.declared.Checked.{Checked}
-use Rattle.record.specs.declared.Checked.TheVariants.{Passed, Refused as Stopped}
 use Rattle.record.specs.declared.Reading.{Reading}
 use Rattle.record.specs.declared.Refusal.{Refusal}
 use Rattle.record.specs.declared.Token.{Token}
@@ -112,10 +110,10 @@ module _ (s : List ℕ) (shift limit room : ℕ) (t : Tokenizer) where
   unfolding whole_run_with run_with
   of_run P none some = go (checks s shift) (boundary s t.at) refl refl
     where
-      go : (c : Checked) (b : Bool) → checks s shift ≡ c → boundary s t.at ≡ b → P (run_if c s shift limit room t).tokens
-      go (Stopped r) b e q = none
-      go Passed false e q = rw q none
-      go Passed true e q = rw q (some (allowed s shift e) q (called-from s shift limit (suc (length s)) room t))
+      go : (c : Result Unit Refusal) (b : Bool) → checks s shift ≡ c → boundary s t.at ≡ b → P (run_if c s shift limit room t).tokens
+      go (Err r) b e q = none
+      go (Ok tt) false e q = rw q none
+      go (Ok tt) true e q = rw q (some (allowed s shift e) q (called-from s shift limit (suc (length s)) room t))
 
   pub called : Called t.reading s shift t.at (whole_run s shift limit room t).tokens
   called = of_run (λ ts. Called t.reading s shift t.at ts) tt (λ a b c. c)
@@ -150,10 +148,10 @@ pub moves : (s : List ℕ) (shift limit : ℕ) (t : Tokenizer) (y : Token) → (
 unfolding next_token_with
 moves s shift limit t y e = go (checks s shift) (boundary s t.at) refl refl
   where
-    go : (c : Checked) (b : Bool) → checks s shift ≡ c → boundary s t.at ≡ b → t.at < (step_if (checks s shift) s shift limit t).next.at
-    go (Stopped r) b f q = no_got r y (rw f at e)
-    go Passed false f q = no_got _ y (rw (f, q) at e)
-    go Passed true f q =
+    go : (c : Result Unit Refusal) (b : Bool) → checks s shift ≡ c → boundary s t.at ≡ b → t.at < (step_if (checks s shift) s shift limit t).next.at
+    go (Err r) b f q = no_got r y (rw f at e)
+    go (Ok tt) false f q = no_got _ y (rw (f, q) at e)
+    go (Ok tt) true f q =
         let g = step_got s shift limit t y (rw (f, q) at e) in
         rw (f, q, g.1) (progress t.reading s t.at g.0.token g.0.got)
 

@@ -1,11 +1,10 @@
 -- PAYLOADS. What it is for a payload to lie in its span, on boundaries of the text, so that its check passes; that every payload does is in
 -- proofs/Payloads.antt. And a place that stepping comes to.
-use Rattle.std.specs.Prelude.{ℕ, zero, suc, ◌+◌, ◌≤◌, true, List, [], ◌∷◌, ◌≡◌, refl, drop, length}
+use Rattle.std.specs.Prelude.{ℕ, zero, suc, ◌+◌, ◌≤◌, true, List, [], ◌∷◌, ◌≡◌, refl, drop, length, Ok}
 use Rattle.std.proofs.Common.{◌∙◌}
 use Rattle.utf8.proofs.Laws.{bounded}
 use Rattle.utf8.specs.Laws.{Whole}
 use Rattle.utf8.specs.Utf8.{boundary, reach, width_of}
-use Rattle.record.specs.declared.Checked.TheVariants.{Passed}
 use Rattle.record.specs.declared.Token.{Token}
 use Rattle.scan.specs.Far.{Far, after, lands}
 use Rattle.scan.specs.Until.{left}
@@ -16,7 +15,7 @@ pub record Held (s : List ℕ) (shift : ℕ) (t : Token) : Type 0 where
   pub from_start : t.start ≤ t.payload_start
   pub forward : t.payload_start ≤ t.payload_end
   pub to_end : t.payload_end ≤ t.end
-  pub checked : payload_check s shift t ≡ Passed
+  pub checked : payload_check s shift t ≡ Ok tt
 
 -- and all of a list
 abbrev pub AllHeld : List ℕ → ℕ → List Token → Type 0

@@ -1,6 +1,6 @@
 -- A run that 14 or 15 stopped, taken up again from the tokenizer that it left: the checks pass again, and it goes on as if it had never stopped.
 use Prim.Native.Nat.{ℕ, zero, suc, ◌+◌, ◌-◌, ◌≤◌}
-use Rattle.std.proofs.Common.{arith, ap, ◌∙◌}
+use Rattle.std.proofs.Common.{arith, ap, ◌∙◌, Result, Ok, Err}
 use Rattle.std.specs.Prelude.{Bool, false, List, [], ◌++◌, ◌≡◌, ltb, length}
 use Rattle.std.proofs.Math.Bool.{true}
 use Rattle.std.proofs.Math.Path.{refl, sym}
@@ -9,8 +9,6 @@ use Rattle.utf8.specs.Utf8.{boundary}
 use Rattle.record.specs.Allowed.{allowed}
 use Rattle.record.specs.Checks.{checks}
 use Rattle.record.specs.Records.{refusal}
-use Rattle.record.specs.declared.Checked.{Checked}
-use Rattle.record.specs.declared.Checked.TheVariants.{Passed, Refused as Stopped}
 use Rattle.record.specs.declared.Code.TheVariants.{BadRecord}
 use Rattle.record.specs.declared.Refusal.{Refusal}
 use Rattle.record.specs.declared.Token.{Token}
@@ -83,15 +81,15 @@ module _ (s : List ℕ) (shift limit : ℕ) where
 
 -- ---- a whole run, by its checks
 module _ (s : List ℕ) (shift : ℕ) where
-  as_run : checks s shift ≡ Passed → (t : Tokenizer) → boundary s t.at ≡ true → (limit room : ℕ) → whole_run s shift limit room t ≡ run s shift limit room t
+  as_run : checks s shift ≡ (Ok tt) → (t : Tokenizer) → boundary s t.at ≡ true → (limit room : ℕ) → whole_run s shift limit room t ≡ run s shift limit room t
   unfolding whole_run_with
   as_run c t b limit room = rw (c, b)
 
-  as_off : checks s shift ≡ Passed → (t : Tokenizer) → boundary s t.at ≡ false → (limit room : ℕ) → whole_run s shift limit room t ≡ stopped (Refused (refusal BadRecord 0)) t
+  as_off : checks s shift ≡ (Ok tt) → (t : Tokenizer) → boundary s t.at ≡ false → (limit room : ℕ) → whole_run s shift limit room t ≡ stopped (Refused (refusal BadRecord 0)) t
   unfolding whole_run_with
   as_off c t b limit room = rw (c, b)
 
-  as_none : (r : Refusal) → checks s shift ≡ Stopped r → (t : Tokenizer) → (limit room : ℕ) → whole_run s shift limit room t ≡ stopped (Refused r) t
+  as_none : (r : Refusal) → checks s shift ≡ Err r → (t : Tokenizer) → (limit room : ℕ) → whole_run s shift limit room t ≡ stopped (Refused r) t
   unfolding whole_run_with
   as_none r c t limit room = rw c
 
@@ -104,7 +102,7 @@ module _ (s : List ℕ) (shift limit limit' room room' : ℕ) (t : Tokenizer) (h
   one-stopped : (x : Outcome) → ((l m : ℕ) → whole_run s shift l m t ≡ stopped x t) → One (whole_run s shift limit room t)
   one-stopped x f = rw (f limit room) (f limit' (0 + room') ∙ sym (ap (before []) (f limit' room')))
 
-  one-run : checks s shift ≡ Passed → boundary s t.at ≡ true → (run s shift limit room t).state.done ≡ Running → One (run s shift limit room t)
+  one-run : checks s shift ≡ (Ok tt) → boundary s t.at ≡ true → (run s shift limit room t).state.done ≡ Running → One (run s shift limit room t)
   unfolding run_with
   one-run c b d =
       let r = run s shift limit room t in
@@ -119,7 +117,7 @@ module _ (s : List ℕ) (shift limit limit' room room' : ℕ) (t : Tokenizer) (h
   pub resumed : (whole_run s shift limit room t).state.done ≡ Running → One (whole_run s shift limit room t)
   resumed = go (checks s shift) refl (boundary s t.at) refl
     where
-      go : (c : Checked) → checks s shift ≡ c → (b : Bool) → boundary s t.at ≡ b → (whole_run s shift limit room t).state.done ≡ Running → One (whole_run s shift limit room t)
-      go (Stopped r) c b e d = one-stopped (Refused r) (as_none s shift r c t)
-      go Passed c false e d = one-stopped (Refused (refusal BadRecord 0)) (as_off s shift c t e)
-      go Passed c true e d = let f = as_run s shift c t e limit room in rw f (one-run c e (rw f at d))
+      go : (c : Result Unit Refusal) → checks s shift ≡ c → (b : Bool) → boundary s t.at ≡ b → (whole_run s shift limit room t).state.done ≡ Running → One (whole_run s shift limit room t)
+      go (Err r) c b e d = one-stopped (Refused r) (as_none s shift r c t)
+      go (Ok tt) c false e d = one-stopped (Refused (refusal BadRecord 0)) (as_off s shift c t e)
+      go (Ok tt) c true e d = let f = as_run s shift c t e limit room in rw f (one-run c e (rw f at d))

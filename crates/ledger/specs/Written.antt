@@ -1,12 +1,11 @@
 -- What the LTK writer finds: a kind's number, and the records in a run's numbers, five a record. That a run's records are never refused for 20 is in
 -- proofs/Written.antt.
-use Rattle.std.specs.Prelude.{ℕ, ◌+◌, ◌*◌, ◌/◌, ◌≤◌, ◌<◌, Bool, true, false, List, [], ◌∷◌, ◌++◌, map, ◌≡◌, refl, ltb, get_or}
+use Rattle.std.specs.Prelude.{ℕ, ◌+◌, ◌*◌, ◌/◌, ◌≤◌, ◌<◌, Bool, true, false, List, [], ◌∷◌, ◌++◌, map, ◌≡◌, refl, ltb, get_or, Some, None}
 use Rattle.std.proofs.Common.{arith, append_assoc, sym, ◌∙◌, length-append, get_or-append-add, ltb-true}
 use Rattle.std.proofs.Math.Path.{ap}
 use Rattle.std.proofs.Math.ListN.{length}
 use Rattle.record.specs.Numbers.{kind_again, kind_number, kind_of}
 use Rattle.record.specs.declared.Kind.{Kind}
-use Rattle.record.specs.declared.Known.TheVariants.{Kind as AKind, Nothing}
 use Rattle.record.specs.declared.Token.{Token}
 use Rattle.run.specs.Numbers.{group_size, groups, numbers_all, numbers_of}
 use Rattle.ltk.specs.Layout.{last_kind}
@@ -19,7 +18,7 @@ kind_small k = go (ltb (kind_number k) 54) refl
   where
     go : (b : Bool) → ltb (kind_number k) 54 ≡ b → kind_number k ≤ last_kind
     go true q = let h : kind_number k < 54 = ltb-true (kind_number k) 54 q in omega arith
-    go false q = let e : Nothing ≡ AKind k = rw q at (kind_again k) in let z : ◌≡◌ {A = ℕ} 0 1 = cc in absurd (omega arith)
+    go false q = let e : None ≡ Some k = rw q at (kind_again k) in let z : ◌≡◌ {A = ℕ} 0 1 = cc in absurd (omega arith)
 
 -- ---- a run as plain numbers, five a record
 pub numbers_length : (ts : List Token) → length (numbers_all ts) ≡ group_size * length ts

@@ -1,4 +1,5 @@
 -- The pure side of the callers that lend a whole list: its first records are those that were stored.
+use Rattle.std.specs.Prelude.{Result}
 use Prim.Native.Nat.{ℕ, ◌+◌, ◌≤◌}
 use native.Mathlib.Omega.{arith}
 use mathlib.Core.List.{List, [], ◌∷◌, ◌++◌, map}
@@ -12,8 +13,8 @@ use Rattle.run.specs.Numbers.{numbers_all}
 use Rattle.run.specs.declared.Ran.{Ran}
 use Rattle.ltk.specs.Laws.{length-listed}
 use Rattle.ltk.specs.Ltk.{delivered, entries_of, entry_at, entry_of, read_answer, read_tokens, token_in, write_answer, written_bytes}
-use Rattle.ltk.specs.declared.Answer.{Answer}
 use Rattle.lent.specs.Copies.{fitted, list_room}
+use Rattle.record.specs.declared.Refusal.{Refusal}
 
 take-front : (ts us : List Token) → take (length ts) (ts ++ us) ≡ ts
 take-front [] us = refl
@@ -54,7 +55,7 @@ length-read : (s : List ℕ) (room : ℕ) → length (read_tokens s room) ≡ de
 unfolding read_tokens
 length-read s room = length-map (entries_of s (delivered (read_answer s room))) token_in ∙ length-listed (entry_at s) 0 (delivered (read_answer s room))
 
-module _ (s : List ℕ) (ys : List Token) (len : length ys ≡ list_room) (r : Answer) (zs : List Token) (e : (r ≡ read_answer s (length ys)) × (zs ≡ over (read_tokens s (length ys)) ys)) (k : ℕ) (k-is : k ≡ delivered r) where
+module _ (s : List ℕ) (ys : List Token) (len : length ys ≡ list_room) (r : Result ℕ Refusal) (zs : List Token) (e : (r ≡ read_answer s (length ys)) × (zs ≡ over (read_tokens s (length ys)) ys)) (k : ℕ) (k-is : k ≡ delivered r) where
   read_is : k ≡ length (read_tokens s (length ys))
   read_is = k-is ∙ ap delivered e.0 ∙ sym (length-read s (length ys))
 
@@ -83,7 +84,7 @@ module _ (s : List ℕ) (shift limit : ℕ) (from from₀ : Tokenizer) (start : 
       let w = first-within ts ys zs e (length ts) refl in
       omega (arith, w, l, len)
 
-  pub run-packed : (r : Ran) → r ≡ ran_of s shift limit (length ys) from → (a : Answer) (fs us : List ℕ) → (a ≡ write_answer (map entry_of ts) (length fs)) × (us ≡ over (written_bytes (map entry_of ts) (length fs)) fs)
+  pub run-packed : (r : Ran) → r ≡ ran_of s shift limit (length ys) from → (a : Result ℕ Refusal) (fs us : List ℕ) → (a ≡ write_answer (map entry_of ts) (length fs)) × (us ≡ over (written_bytes (map entry_of ts) (length fs)) fs)
       → (r ≡ ran_of s shift limit list_room from₀) × (a ≡ write_answer (map entry_of ts₀) (length fs)) × (us ≡ over (written_bytes (map entry_of ts₀) (length fs)) fs)
   run-packed r e a fs us f = (
     e ∙ ap (λ (k : ℕ). ran_of s shift limit k from) len ∙ ap (λ (t : Tokenizer). ran_of s shift limit list_room t) start,

@@ -1,4 +1,2 @@
 -- what a reader must believe
 pub mod Copies
--- the steps of the loop
-pub mod Steps

@@ -1,7 +1,7 @@
 // Callers with plain parameters: a tokenizer and a list of records that stand in locals are lent here, so that a program need not lend them.
 #![tactic(auto)]
 
-ghost use Rattle.std.specs.Prelude.{◌≡◌, ◌+◌, ◌*◌, ◌<◌, ◌≤◌, map, get_or, length, take};
+ghost use Rattle.std.specs.Prelude.{◌≡◌, ◌+◌, ◌*◌, ◌≤◌, map, length, take};
 ghost use Rattle.std.proofs.lemmas.List.Edits.{sets};
 ghost use Rattle.record.specs.Records.{over};
 ghost use Rattle.reading.specs.Answers.{start_state};
@@ -10,11 +10,10 @@ ghost use Rattle.run.specs.Checked.{next_token, ran_of, whole_run};
 ghost use Rattle.run.specs.Numbers.{group_size, numbers_all, numbers_of};
 ghost use Rattle.run.specs.Pending.{no_token};
 ghost use Rattle.lent.specs.Copies.{fitted, highest_limit, list_room};
-ghost use Rattle.lent.specs.Steps.{fitting, turn_at};
 
-use ltk::Answer;
+use ltk::GROUP_SIZE;
 use reading::{Tokenizer, What};
-use record::{Kind, Token};
+use record::{Kind, Refusal, Token};
 use run::Ran;
 
 // What the single call answers, and the tokenizer that it leaves.
@@ -36,17 +35,6 @@ pub fn next_lent(text: &[u8], shift: u64, limit: u64, from: Tokenizer) -> Called
 // How many records a local list has room for.
 const LIST_ROOM: usize = 32768;
 
-// How many numbers a record takes: kind, start, end, payload start, payload end.
-const GROUP_SIZE: usize = 5;
-
-// A turn of the loop that copies records, of so many.
-#[derive(Clone, Copy)]
-pub struct Turn {
-    pub going: bool,
-    pub at: usize,
-    pub count: usize,
-}
-
 // What a list is made of.
 fn no_token() -> Token
     ensures { result ≡ no_token }
@@ -54,56 +42,17 @@ fn no_token() -> Token
     record::token_of(Kind::Enum, 0, 0, 0, 0)
 }
 
-// The turn at an index, of n.
-fn turn_at(n: usize, at: usize) -> Turn
-    ensures { result ≡ turn_at n at }
-{
-    Turn {
-        going: at < n,
-        at,
-        count: n,
-    }
-}
-
-// The first turn, for a list of so many numbers: all the records are copied, or none.
-fn first_turn(count: usize, room: usize) -> Turn
-    ensures { result ≡ turn_at (fitting count room) 0 }
-{
-    if room / GROUP_SIZE < count {
-        return turn_at(0, 0);
-    }
-    turn_at(count, 0)
-}
-
-// The turn after one.
-fn next_turn(p: Turn) -> Turn
-    requires { p.at < p.count }
-    ensures { result ≡ turn_at p.count (p.at + 1) }
-{
-    let at = p.at;
-    turn_at(p.count, at + 1)
-}
-
-// A record as five numbers, after i others.
+// A record as five numbers, kind, start, end, payload start, payload end, after i others.
 fn put_group(records: &mut [u64], i: usize, t: Token)
     requires { group_size * (i + 1) ≤ length records.old }
     ensures { records.new ≡ sets records.old (group_size * i) (numbers_of t) }
 {
     let p = GROUP_SIZE * i;
-    let kind = t.kind;
-    records[p] = record::kind_number(kind) as u64;
+    records[p] = record::kind_number(t.kind) as u64;
     records[p + 1] = t.start;
     records[p + 2] = t.end;
     records[p + 3] = t.payload_start;
     records[p + 4] = t.payload_end;
-}
-
-// One record of a list.
-fn get(list: &[Token], i: usize) -> Token
-    requires { i < length list.now }
-    ensures { result ≡ get_or list.now i no_token }
-{
-    list[i]
 }
 
 // The first records of a lent list as numbers, if all of them fit.
@@ -111,11 +60,11 @@ fn copy_first(list: &[Token], count: usize, records: &mut [u64])
     requires { count ≤ length list.now }
     ensures { records.new ≡ fitted (numbers_all (take count list.now)) records.old }
 {
-    let mut p = first_turn(count, records.len());
-    while p.going {
-        let t = get(list, p.at);
-        put_group(&mut *records, p.at, t);
-        p = next_turn(p);
+    if records.len() / GROUP_SIZE < count {
+        return;
+    }
+    for (i, t) in list[..count].iter().enumerate() {
+        put_group(records, i, *t);
     }
 }
 
@@ -131,17 +80,14 @@ pub fn run_listed(text: &[u8], shift: u64, limit: u64, records: &mut [u64], from
 }
 
 // How many records the reader delivered.
-fn count_of(a: Answer) -> usize
+fn count_of(a: Result<usize, Refusal>) -> usize
     ensures { result ≡ delivered a }
 {
-    match a {
-        Answer::Done(n) => n,
-        Answer::Refused(_) => 0,
-    }
+    a.unwrap_or(0)
 }
 
 // The reader of an LTK file: the list stands in a local, which is lent, and its records are copied as numbers.
-pub fn read_listed(file: &[u8], records: &mut [u64]) -> Answer
+pub fn read_listed(file: &[u8], records: &mut [u64]) -> Result<usize, Refusal>
     ensures { (result ≡ read_answer file.now list_room) × (records.new ≡ fitted (numbers_all (read_tokens file.now list_room)) records.old) }
 {
     let none = no_token();
@@ -159,7 +105,7 @@ const HIGHEST_LIMIT: u64 = 18446744073709551615;
 #[derive(Clone, Copy)]
 pub struct Packed {
     pub ran: Ran,
-    pub written: Answer,
+    pub written: Result<usize, Refusal>,
 }
 
 // A text's LTK file: the list stands in a local, which is lent to a run; then the records that it stored, however it ended, are lent to the writer.

@@ -1,65 +1,44 @@
--- The pure side of the loops that lay out numbers: what is still to be stored, at each turn.
-use Prim.Native.Nat.{ℕ, suc, ◌+◌, ◌-◌, ◌*◌, ◌/◌, ◌%◌, ◌≤◌, ◌<◌}
-use mathlib.Core.Path.{◌≡◌, refl, sym, ap, ◌∙◌}
-use mathlib.Core.List.{List, [], ◌∷◌, ◌++◌}
-use mathlib.Core.Bool.{true, false}
-use native.Mathlib.Omega.{arith}
-use lib.Dec.{ltb}
-use lib.ListN.{length, set, length-append}
-use lib.Seq.{sets, length-sets}
-use borrow.Author.Tests.{ltb-true, ltb-false}
-use Rattle.utf8.specs.Chars.{'L, 'T, 'K}
-use Rattle.record.specs.Stores.{sets_append}
+-- The pure side of the stores: a number's bytes, a record's bytes and numbers, and records one after another.
+use Rattle.std.proofs.Common.{ℕ, zero, suc, ◌+◌, ◌-◌, ◌*◌, ◌/◌, ◌%◌, ◌≤◌, ◌<◌, ◌≡◌, List, [], ◌∷◌, ◌++◌, map, length, take, drop, refl, sym, ap, ◌∙◌, arith, append_assoc, length-append, append-nil}
+use Rattle.std.proofs.Math.ListN.{set, drop_of_length-le}
+use Rattle.std.proofs.lemmas.List.{length-map}
+use Rattle.std.proofs.lemmas.List.Edits.{sets, sets-eq, paste_all}
+use Rattle.std.proofs.lemmas.Slice.{put_mid-paste}
+use Rattle.std.specs.Int.{to_le_bytes, w64}
+use borrow.Rule.Slice.PartMut.{put_mid}
+use Rattle.record.specs.Stores.{sets_append, sets_over}
+use Rattle.record.specs.declared.Token.{Token}
 use Rattle.ltk.specs.declared.Entry.{Entry}
-use Rattle.ltk.specs.Layout.{version, version_place, count_place, header_size, record_size, record_place, little}
-use Rattle.ltk.specs.Ltk.{numbers_in, group_size, record_bytes, header_bytes, flat, listed}
-use Rattle.ltk.specs.declared.Turn.{Turn}
-use Rattle.ltk.specs.Steps.{turn_at}
-use Rattle.ltk.specs.Laws.{length-little, length_record}
+use Rattle.ltk.specs.Layout.{mark, version, version_place, count_place, record_place, little}
+use Rattle.ltk.specs.Ltk.{numbers_in, group_size, record_bytes, header_bytes, flat, listed, token_in, entries_of, entry_at}
+use Rattle.ltk.specs.Laws.{length-little, length_record, length-listed}
+
+-- what a list holds after a store of the whole of a part of it
+pub part_set : {A : Type 0} → (p k : ℕ) (xs ys zs : List A) → p + k ≤ length xs → k ≡ length zs → ys ≡ zs → put_mid p k xs ys ≡ sets xs p zs
+part_set p k xs ys zs h l e =
+    put_mid-paste p k xs ys zs (length zs) e (sym l) refl ∙ paste_all xs p zs (length zs) refl ∙ sym (append_assoc (take p xs) zs (drop (p + length zs) xs))
+    ∙ sym (sets-eq zs xs p (omega arith))
 
 -- ---- the bytes of a number
-module _ (p k : ℕ) where
-  pub put-start : (o : List ℕ) (n : ℕ) → sets o (p + 0) (little (k - 0) n) ≡ sets o p (little k n)
-  put-start o n =
-      let e : p + 0 ≡ p = omega arith in
-      let f : k - 0 ≡ k = omega arith in
-      rw (e, f)
+take_little : (k m n : ℕ) → k ≤ m → take k (little m n) ≡ little k n
+unfolding little
+take_little zero m n h = refl
+take_little (suc k) zero n h = absurd (omega arith)
+take_little (suc k) (suc m) n h = ap (λ (l : List ℕ). n % 256 ∷ l) (take_little k m (n / 256) (omega arith))
 
-  pub put_on : (o : List ℕ) (i n : ℕ) → i < k → sets (set o (p + i) (n % 256)) (p + (i + 1)) (little (k - (i + 1)) (n / 256)) ≡ sets o (p + i) (little (k - i) n)
-  unfolding little
-  put_on o i n h =
-      let e : k - i ≡ suc (k - (i + 1)) = omega arith in
-      let f : p + (i + 1) ≡ suc (p + i) = omega arith in
-      rw (e, f)
+all_bytes : (n : ℕ) → to_le_bytes w64 n ≡ little 8 n
+unfolding little
+all_bytes n =
+    let a : n / 65536 ≡ n / 256 / 256 = omega arith in
+    let b : n / 16777216 ≡ n / 256 / 256 / 256 = omega arith in
+    let c : n / 4294967296 ≡ n / 256 / 256 / 256 / 256 = omega arith in
+    let d : n / 1099511627776 ≡ n / 256 / 256 / 256 / 256 / 256 = omega arith in
+    let e : n / 281474976710656 ≡ n / 256 / 256 / 256 / 256 / 256 / 256 = omega arith in
+    let f : n / 72057594037927936 ≡ n / 256 / 256 / 256 / 256 / 256 / 256 / 256 = omega arith in
+    rw (a, b, c, d, e, f)
 
-  pub put-end : (o : List ℕ) (i n : ℕ) → k ≤ i → sets o (p + i) (little (k - i) n) ≡ o
-  unfolding little
-  put-end o i n h =
-      let e : k - i ≡ 0 = omega arith in
-      rw e
-
--- ---- records, each as numbers from a place of its own on
-module _ (f : ℕ → Entry) (g : Entry → List ℕ) (place : ℕ → ℕ) (step : (i : ℕ) (e : Entry) → place i + length (g e) ≡ place (i + 1)) (n : ℕ) where
-  pub lay-start : (o : List ℕ) → sets o (place 0) (flat g (listed f 0 (n - 0))) ≡ sets o (place 0) (flat g (listed f 0 n))
-  lay-start o =
-      let e : n - 0 ≡ n = omega arith in
-      rw e
-
-  pub lay-on : (o : List ℕ) (i : ℕ) → i < n
-      → sets (sets o (place i) (g (f i))) (place (i + 1)) (flat g (listed f (i + 1) (n - (i + 1)))) ≡ sets o (place i) (flat g (listed f i (n - i)))
-  unfolding flat listed
-  lay-on o i h =
-      let e : n - i ≡ suc (n - (i + 1)) = omega arith in
-      rw e
-      (sym
-      (sets_append (g (f i)) (flat g (listed f (i + 1) (n - (i + 1)))) o (place i)
-      ∙ ap (λ (k : ℕ). sets (sets o (place i) (g (f i))) k (flat g (listed f (i + 1) (n - (i + 1))))) (step i (f i))))
-
-  pub lay-end : (o : List ℕ) (i : ℕ) → n ≤ i → sets o (place i) (flat g (listed f i (n - i))) ≡ o
-  unfolding flat listed
-  lay-end o i h =
-      let e : n - i ≡ 0 = omega arith in
-      rw e
+pub first_bytes : (k n : ℕ) → k ≤ 8 → take k (to_le_bytes w64 n) ≡ little k n
+first_bytes k n h = ap (take k) (all_bytes n) ∙ take_little k 8 n h
 
 -- ---- a record, and the header
 pub record_laid : (o : List ℕ) (p : ℕ) (e : Entry) → sets (sets (sets o p (little 1 e.kind)) (p + 1) (little 4 e.start)) (p + 5) (little 4 e.end) ≡ sets o p (record_bytes e)
@@ -69,7 +48,7 @@ record_laid o p e =
     (sets_append (little 1 e.kind ++ little 4 e.start) (little 4 e.end) o p
     ∙ rw (sets_append (little 1 e.kind) (little 4 e.start) o p, length-append (little 1 e.kind) (little 4 e.start), length-little, length-little))
 
-pub header_laid : (o : List ℕ) (n : ℕ) → sets (sets (set (set (set o 0 'L) 1 'T) 2 'K) version_place (little 2 version)) count_place (little 4 n) ≡ sets o 0 (header_bytes n)
+pub header_laid : (o : List ℕ) (n : ℕ) → sets (sets (sets o 0 mark) version_place (little 2 version)) count_place (little 4 n) ≡ sets o 0 (header_bytes n)
 unfolding header_bytes little
 header_laid o n = refl
 
@@ -81,6 +60,24 @@ group_laid o p e =
     let c : p + 3 ≡ suc (suc (suc p)) = omega arith in
     let d : p + 4 ≡ suc (suc (suc (suc p))) = omega arith in
     rw (a, b, c, d)
+
+-- ---- records, each as numbers from a place of its own on: what is still to be stored at an index
+module _ (f : ℕ → Entry) (g : Entry → List ℕ) (place : ℕ → ℕ) (step : (i : ℕ) (e : Entry) → place i + length (g e) ≡ place (i + 1)) (n : ℕ) (o : List ℕ) (i : ℕ) where
+  pub lay-on : i < n → (e : Entry) → e ≡ f i
+      → sets (sets o (place i) (g e)) (place (i + 1)) (flat g (listed f (i + 1) (n - (i + 1)))) ≡ sets o (place i) (flat g (listed f i (n - i)))
+  unfolding flat listed
+  lay-on h e e-is =
+      let l : n - i ≡ suc (n - (i + 1)) = omega arith in
+      rw (l, e-is)
+      (sym
+      (sets_append (g (f i)) (flat g (listed f (i + 1) (n - (i + 1)))) o (place i)
+      ∙ ap (λ (k : ℕ). sets (sets o (place i) (g (f i))) k (flat g (listed f (i + 1) (n - (i + 1))))) (step i (f i))))
+
+  pub lay-end : n ≤ i → sets o (place i) (flat g (listed f i (n - i))) ≡ o
+  unfolding flat listed
+  lay-end h =
+      let e : n - i ≡ 0 = omega arith in
+      rw e
 
 -- where each record's numbers start
 pub record_step : (i : ℕ) (e : Entry) → record_place i + length (record_bytes e) ≡ record_place (i + 1)
@@ -94,40 +91,26 @@ unfolding flat
 length-groups [] = refl
 length-groups (e ∷ es) = omega (arith, length-groups es)
 
--- ---- the loop of `put_tokens`: the turn, and what is still to be stored
-pub record Inv (f : ℕ → Entry) (n : ℕ) (o : List ℕ) (p : Turn) (ys : List ℕ) : Type 0 where
-  pub going-is : p.going ≡ ltb p.at n
-  pub far : p.at ≤ n
-  pub left_is : sets ys (record_place p.at) (flat record_bytes (listed f p.at (n - p.at))) ≡ sets o header_size (flat record_bytes (listed f 0 n))
-  pub same : length ys ≡ length o
+-- ---- a file's tokens, one at each index of a list
+module _ (s : List ℕ) (n : ℕ) (ts : List Token) (i : ℕ) where
+  pub token-on : i < n → sets (set ts i (token_in (entry_at s i))) (i + 1) (map token_in (listed (entry_at s) (i + 1) (n - (i + 1)))) ≡ sets ts i (map token_in (listed (entry_at s) i (n - i)))
+  unfolding listed
+  token-on h =
+      let l : n - i ≡ suc (n - (i + 1)) = omega arith in
+      let o : i + 1 ≡ suc i = omega arith in
+      rw (l, o)
 
-module _ (f : ℕ → Entry) (n : ℕ) (o : List ℕ) where
-  pub start : (p : Turn) → p ≡ turn_at n 0 → Inv f n o p o
-  start p e = rw e (record { going-is = refl; far = omega arith; left_is = lay-start f record_bytes record_place record_step n o; same = refl })
+  pub token-end : n ≤ i → sets ts i (map token_in (listed (entry_at s) i (n - i))) ≡ ts
+  unfolding listed
+  token-end h =
+      let e : n - i ≡ 0 = omega arith in
+      rw e
 
-  module _ (p : Turn) (ys : List ℕ) (i : Inv f n o p ys) where
-    pub within : p.going ≡ true → p.at < n
-    within g = ltb-true p.at n (sym i.going-is ∙ g)
-
-    pub has_room : record_size * n ≤ length o - header_size → p.going ≡ true → record_place (p.at + 1) ≤ length ys
-    has_room h g = omega (arith, within g, i.same)
-
-    pub turn : p.going ≡ true → (e : Entry) (q : Turn) → e ≡ f p.at → q ≡ turn_at n (p.at + 1) → Inv f n o q (sets ys (record_place p.at) (record_bytes e))
-    turn g e q e-is q-is =
-        rw (q-is, e-is)
-        (record {
-          going-is = refl;
-          far = omega (arith, within g);
-          left_is = lay-on f record_bytes record_place record_step n ys p.at (within g) ∙ i.left_is;
-          same = length-sets ys (record_place p.at) (record_bytes (f p.at)) ∙ i.same;
-        })
-
-    pub falls : p.going ≡ true → (q : Turn) → q ≡ turn_at n (p.at + 1) → n - q.at < n - p.at
-    falls g q q-is =
-        let z : q.at ≡ p.at + 1 = ap (λ (r : Turn). r.at) q-is in
-        omega (arith, z, within g)
-
-    pub end : p.going ≡ false → ys ≡ sets o header_size (flat record_bytes (listed f 0 n))
-    end g =
-        let h : n ≤ p.at = ltb-false p.at n (sym i.going-is ∙ g) in
-        sym (lay-end f record_bytes record_place record_step n ys p.at h) ∙ i.left_is
+pub tokens-all : (s : List ℕ) (ts : List Token) → sets ts 0 (map token_in (listed (entry_at s) 0 (length ts - 0))) ≡ map token_in (entries_of s (length ts))
+tokens-all s ts =
+    let z : length ts - 0 ≡ length ts = omega arith in
+    let l = length-map (entries_of s (length ts)) token_in ∙ length-listed (entry_at s) 0 (length ts) in
+    let d : drop (length (map token_in (entries_of s (length ts)))) ts ≡ [] = drop_of_length-le ts (omega (arith, l)) in
+    rw z
+    (sets_over (map token_in (entries_of s (length ts))) ts (omega (arith, l)) ∙ ap (λ (r : List Token). map token_in (entries_of s (length ts)) ++ r) d
+    ∙ append-nil (map token_in (entries_of s (length ts))))

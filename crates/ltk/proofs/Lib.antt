@@ -1,7 +1,7 @@
 -- What the proofs share.
 pub mod Numbers
-pub mod Judging
 pub mod Checking
+pub mod Judging
 pub mod Laying
-pub mod Writing
 pub mod Reading
+pub mod Writing

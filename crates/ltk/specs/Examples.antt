@@ -1,17 +1,16 @@
 -- Small files, by computation: each refusal with its place, in 01's order, and the file of two records.
-use Rattle.std.specs.Prelude.{ℕ, ◌≡◌, refl, List, [], ◌∷◌, ◌++◌, map, take}
+use Rattle.std.specs.Prelude.{ℕ, ◌≡◌, refl, List, [], ◌∷◌, ◌++◌, map, take, Result, Ok, Err}
 use Rattle.utf8.specs.Chars.{'L, 'T, 'K, 'a}
 use Rattle.record.specs.declared.Code.{Code}
 use Rattle.record.specs.declared.Code.TheVariants.{NoRoom, BadMark, UnknownVersion, BadLength, BadRecord}
 use Rattle.record.specs.Records.{refusal}
 use Rattle.ltk.specs.declared.Entry.{Entry}
-use Rattle.ltk.specs.declared.Answer.{Answer}
-use Rattle.ltk.specs.declared.Answer.TheVariants.{Done, Refused}
 use Rattle.ltk.specs.Layout.{little, number_at}
 use Rattle.ltk.specs.Ltk.{entry, record_bytes, header_bytes, flat, records_bytes, image, judged, listed, file_check, read_answer, write_answer}
+use Rattle.record.specs.declared.Refusal.{Refusal}
 
-abbrev no : Code → ℕ → Answer
-no code place = Refused (refusal code place)
+abbrev no : Code → ℕ → Result ℕ Refusal
+no code place = Err (refusal code place)
 
 -- `Enum` 0..4 and `Use` 5..300
 abbrev two : List Entry
@@ -38,11 +37,11 @@ pub marked :
     one 0 1 1 ∷ one 0 0 2147483647 ∷ one 0 0 2147483648 ∷ (header_bytes 2 ++ (record_bytes (entry 0 0 4) ++ record_bytes (entry 0 3 5))) ∷ [])
     ≡
     no BadMark 0 ∷ no BadMark 0 ∷ no BadMark 0 ∷ no BadLength 9 ∷ no BadLength 9 ∷ no UnknownVersion 3 ∷
-    Done 0 ∷ no BadLength 9 ∷ no BadLength 9 ∷ Done 2 ∷ Done 1 ∷ no BadRecord 9 ∷
-    no BadRecord 9 ∷ Done 1 ∷ no BadRecord 9 ∷ no BadRecord 18 ∷ []
+    Ok 0 ∷ no BadLength 9 ∷ no BadLength 9 ∷ Ok 2 ∷ Ok 1 ∷ no BadRecord 9 ∷
+    no BadRecord 9 ∷ Ok 1 ∷ no BadRecord 9 ∷ no BadRecord 18 ∷ []
 unfolding file_check judged listed number_at header_bytes flat record_bytes little
 marked = refl
 
-pub roomy : read_answer two_bytes 2 ∷ read_answer two_bytes 1 ∷ write_answer two 27 ∷ write_answer two 26 ∷ [] ≡ Done 2 ∷ no NoRoom 0 ∷ Done 27 ∷ no NoRoom 0 ∷ []
+pub roomy : read_answer two_bytes 2 ∷ read_answer two_bytes 1 ∷ write_answer two 27 ∷ write_answer two 26 ∷ [] ≡ Ok 2 ∷ no NoRoom 0 ∷ Ok 27 ∷ no NoRoom 0 ∷ []
 unfolding read_answer write_answer file_check judged listed number_at
 roomy = refl

@@ -1,5 +1,5 @@
 -- The LTK file is faithful: reading gives what was written, writing gives what was read, and every file is refused or is an image.
-use Rattle.std.specs.Prelude.{ℕ, zero, suc, ◌+◌, ◌*◌, ◌≤◌, ◌<◌, ◌≡◌, Bool, true, false, cond, ◌&&◌, ◌⊎◌, ltb, eqb, length, get_or, take}
+use Rattle.std.specs.Prelude.{ℕ, zero, suc, ◌+◌, ◌*◌, ◌≤◌, ◌<◌, ◌≡◌, Bool, true, false, cond, ◌&&◌, ◌⊎◌, ltb, eqb, length, get_or, take, Result, Ok, Err, Some}
 use Rattle.std.proofs.Math.Path.{refl, ap}
 use Rattle.std.proofs.Common.{sym, ◌∙◌, inl, inr, arith, lt-ltb, le-ltb, eq-eqb, ltb-false, eqb-true}
 use mathlib.Core.List.{List, [], ◌∷◌, ◌++◌, map, append_assoc}
@@ -15,9 +15,6 @@ use Rattle.record.specs.declared.Code.TheVariants.{TooLong, NoRoom}
 use Rattle.record.specs.Numbers.{kind_number, kinds, kind_of, kind_again}
 use Rattle.record.specs.Records.{refusal, token_of}
 use Rattle.ltk.specs.declared.Entry.{Entry}
-use Rattle.ltk.specs.declared.Answer.{Answer}
-use Rattle.ltk.specs.declared.Found.TheVariants as Found
-use Rattle.ltk.specs.declared.Answer.TheVariants.{Done, Refused}
 use Rattle.ltk.specs.Layout.{mark, version, version_place, count_place, header_size, record_size, count_limit, record_place, little, number_at}
 use Rattle.ltk.specs.Ltk.{entry_of, kind_in, token_in, header_bytes, records_bytes, image, judged, judge, passing, records_ok, marked, count_in, entry_at, listed, entries_of, entries, file_check, room_for, read_answer, delivered, read_tokens, record_at, bytes_for, write_answer, written_bytes}
 use Rattle.ltk.specs.Reasons.{Meets, one_reason, refused_met}
@@ -34,23 +31,23 @@ pub record Taken (s : List ℕ) (n : ℕ) : Type 0 where
   pub whole : header_size ≤ length s
   pub version-is : number_at 2 s version_place ≡ version
   pub length-is : length s ≡ record_place (count_in s)
-  pub judge-is : judge (entries s) ≡ Done n
+  pub judge-is : judge (entries s) ≡ Ok n
 
-taken_by_lem : (a b c d : Bool) (x : Answer) (p q r o : Refusal) (n : ℕ) → cond a (cond b (Refused p) (cond c (cond d x (Refused q)) (Refused r))) (Refused o) ≡ Done n
-    → (a ≡ true) × (b ≡ false) × (c ≡ true) × (d ≡ true) × (x ≡ Done n)
+taken_by_lem : (a b c d : Bool) (x : Result ℕ Refusal) (p q r o : Refusal) (n : ℕ) → cond a (cond b (Err p) (cond c (cond d x (Err q)) (Err r))) (Err o) ≡ Ok n
+    → (a ≡ true) × (b ≡ false) × (c ≡ true) × (d ≡ true) × (x ≡ Ok n)
 taken_by_lem false b c d x p q r o n e = (cc, cc, cc, cc, cc)
 taken_by_lem true true c d x p q r o n e = (cc, cc, cc, cc, cc)
 taken_by_lem true false false d x p q r o n e = (cc, cc, cc, cc, cc)
 taken_by_lem true false true false x p q r o n e = (cc, cc, cc, cc, cc)
 taken_by_lem true false true true x p q r o n e = (refl, refl, refl, refl, e)
 
-pub taken : (s : List ℕ) (n : ℕ) → file_check s ≡ Done n → Taken s n
+pub taken : (s : List ℕ) (n : ℕ) → file_check s ≡ Ok n → Taken s n
 unfolding file_check
 taken s n e =
     let p = taken_by_lem _ _ _ _ _ _ _ _ _ n e in
     record { mark-is = p.0; whole = ltb-false _ _ p.1; version-is = eqb-true _ _ p.2; length-is = eqb-true _ _ p.3; judge-is = p.4 }
 
-takes : (s : List ℕ) (n : ℕ) → Taken s n → file_check s ≡ Done n
+takes : (s : List ℕ) (n : ℕ) → Taken s n → file_check s ≡ Ok n
 unfolding file_check
 takes s n t = simp (t.mark-is, le-ltb _ _ t.whole, eq-eqb _ _ t.version-is, eq-eqb _ _ t.length-is) t.judge-is
 
@@ -80,13 +77,13 @@ module _ (es : List Entry) where
   entries-back h = records_back es (header_bytes (length es)) 0 (length_header (length es)) (passing-small 0 es h)
 
 -- reading what was written gives the kinds and spans
-pub read-written : (es : List Entry) → Fine es → (file_check (image es) ≡ Done (length es)) × (entries (image es) ≡ es)
+pub read-written : (es : List Entry) → Fine es → (file_check (image es) ≡ Ok (length es)) × (entries (image es) ≡ es)
 read-written es f =
     let c = count_back es f.few in
     let l = length-image es in
     let e = ap (entries_of (image es)) c ∙ entries-back es f.passes in
     let z : 0 + length es ≡ length es = omega arith in
-    let j = ap judge e ∙ passing-judged 0 0 es f.passes ∙ ap Done z in (
+    let j = ap judge e ∙ passing-judged 0 0 es f.passes ∙ ap Ok z in (
       takes (image es) (length es)
           (record { mark-is = mark-back es; whole = omega (arith, l); version-is = version-back es; length-is = l ∙ ap record_place (sym c); judge-is = j }),
       e,
@@ -135,7 +132,7 @@ module _ (s : List ℕ) (bytes : Bytes s) (n : ℕ) (t : Taken s n) where
       record { few = rw (length-listed (entry_at s) 0 (count_in s)) few; passes = (judged_done 0 0 (entries s) n t.judge-is).0 }
 
 -- writing what was read gives the bytes
-pub written_read : (s : List ℕ) → Bytes s → (n : ℕ) → file_check s ≡ Done n → (n ≡ count_in s) × Fine (entries s) × (image (entries s) ≡ s)
+pub written_read : (s : List ℕ) → Bytes s → (n : ℕ) → file_check s ≡ Ok n → (n ≡ count_in s) × Fine (entries s) × (image (entries s) ≡ s)
 written_read s bytes n e =
     let t = taken s n e in
     (count_is s n t, entries_fine s bytes n t, image-read s bytes n t)
@@ -144,7 +141,7 @@ written_read s bytes n e =
 -- refused, since it meets the condition of exactly one refusal, and then no image
 pub record Refusing (s : List ℕ) : Type 0 where
   pub why : Refusal
-  pub refused : file_check s ≡ Refused why
+  pub refused : file_check s ≡ Err why
   pub met : Meets s why
   pub only_why : (r : Refusal) → Meets s r → r ≡ why
   pub no-image : (us : List Entry) → Fine us → image us ≡ s → ⊥
@@ -152,7 +149,7 @@ pub record Refusing (s : List ℕ) : Type 0 where
 -- or the image of one list
 pub record Imaging (s : List ℕ) : Type 0 where
   pub records : List Entry
-  pub answered : file_check s ≡ Done (length records)
+  pub answered : file_check s ≡ Ok (length records)
   pub fine : Fine records
   pub image-is : image records ≡ s
   pub only : (us : List Entry) → Fine us → image us ≡ s → us ≡ records
@@ -160,8 +157,8 @@ pub record Imaging (s : List ℕ) : Type 0 where
 pub either : (s : List ℕ) → Bytes s → Refusing s ⊎ Imaging s
 either s bytes = by (file_check s) refl
   where
-    by : (a : Answer) → file_check s ≡ a → Refusing s ⊎ Imaging s
-    by (Refused r) e =
+    by : (a : Result ℕ Refusal) → file_check s ≡ a → Refusing s ⊎ Imaging s
+    by (Err r) e =
         inl
         (record {
           why = r;
@@ -170,12 +167,12 @@ either s bytes = by (file_check s) refl
           only_why = λ q m. one_reason s r q (refused_met s r e) m;
           no-image = λ us f i. (let z : ◌≡◌ {A = ℕ} 0 1 = cc ((read-written us f).0, ap file_check i) in absurd (omega arith));
         })
-    by (Done n) e =
+    by (Ok n) e =
         let w = written_read s bytes n e in
         inr
         (record {
           records = entries s;
-          answered = e ∙ ap Done (w.0 ∙ sym (length-listed (entry_at s) 0 (count_in s)));
+          answered = e ∙ ap Ok (w.0 ∙ sym (length-listed (entry_at s) 0 (count_in s)));
           fine = w.1;
           image-is = w.2;
           only = λ us f i. sym (read-written us f).1 ∙ ap entries i;
@@ -222,62 +219,62 @@ entries_again [] h = refl
 entries_again (e ∷ es) h = cc (entry_again e h.0, entries_again es h.1)
 
 pub tokens-read : (ts : List Token) (room : ℕ) → length ts < count_limit → records_ok ts ≡ true → length ts ≤ room
-    → (read_answer (image (map entry_of ts)) room ≡ Done (length ts)) × (read_tokens (image (map entry_of ts)) room ≡ map bare ts)
+    → (read_answer (image (map entry_of ts)) room ≡ Ok (length ts)) × (read_tokens (image (map entry_of ts)) room ≡ map bare ts)
 unfolding read_answer read_tokens
 tokens-read ts room few ok fits =
     let es = map entry_of ts in
     let l = length-map ts entry_of in
     let f : Fine es = record { few = rw l few; passes = ok } in
     let r = read-written es f in
-    let a : read_answer (image es) room ≡ Done (length ts) = rw (r.0, l) (simp (le-ltb room (length ts) fits)) in
+    let a : read_answer (image es) room ≡ Ok (length ts) = rw (r.0, l) (simp (le-ltb room (length ts) fits)) in
     (a, rw a (ap (map token_in) (ap (entries_of (image es)) (sym l) ∙ entries-back es ok) ∙ tokens_again ts))
 
 -- a list whose records pass is refused for its count or for the buffer alone, and otherwise its image is written
 pub passing-answer : (es : List Entry) (room : ℕ) → passing 0 es ≡ true
-    → write_answer es room ≡ cond (ltb (length es) count_limit) (bytes_for room (Done (length es))) (Refused (refusal TooLong 0))
+    → write_answer es room ≡ cond (ltb (length es) count_limit) (bytes_for room (Ok (length es))) (Err (refusal TooLong 0))
 unfolding write_answer
 passing-answer es room h =
     let z : 0 + length es ≡ length es = omega arith in
     rw (passing-judged 0 0 es h, z)
 
 pub writes : (es : List Entry) (room : ℕ) → Fine es → record_place (length es) ≤ room
-    → (write_answer es room ≡ Done (record_place (length es))) × (written_bytes es room ≡ image es)
+    → (write_answer es room ≡ Ok (record_place (length es))) × (written_bytes es room ≡ image es)
 unfolding written_bytes
 writes es room f h =
-    let a : write_answer es room ≡ Done (record_place (length es)) =
+    let a : write_answer es room ≡ Ok (record_place (length es)) =
     passing-answer es room f.passes ∙ simp (lt-ltb _ _ f.few, le-ltb _ _ h) in
     (a, rw a)
 
-room_done : (room : ℕ) (a : Answer) (n : ℕ) → room_for room a ≡ Done n → a ≡ Done n
-room_done room (Refused r) n e = e
-room_done room (Done m) n e = by_test (λ (x : Answer). x ≡ Done n → Done m ≡ Done n) (ltb room m) (Refused (refusal NoRoom 0)) (Done m) (λ t f. cc) (λ t f. f) e
+room_done : (room : ℕ) (a : Result ℕ Refusal) (n : ℕ) → room_for room a ≡ Ok n → a ≡ Ok n
+room_done room (Err r) n e = e
+room_done room (Ok m) n e = by_test (λ (x : Result ℕ Refusal). x ≡ Ok n → ◌≡◌ {A = Result ℕ Refusal} (Ok m) (Ok n)) (ltb room m) (Err (refusal NoRoom 0)) (Ok m) (λ t f. cc) (λ t f. f) e
 
 -- writing the tokens that were read gives the bytes
-pub tokens-written : (s : List ℕ) (room more n : ℕ) → Bytes s → read_answer s room ≡ Done n → length s ≤ more
-    → (write_answer (map entry_of (read_tokens s room)) more ≡ Done (length s)) × (written_bytes (map entry_of (read_tokens s room)) more ≡ s)
+pub tokens-written : (s : List ℕ) (room more n : ℕ) → Bytes s → read_answer s room ≡ Ok n → length s ≤ more
+    → (write_answer (map entry_of (read_tokens s room)) more ≡ Ok (length s)) × (written_bytes (map entry_of (read_tokens s room)) more ≡ s)
 unfolding read_tokens read_answer
 tokens-written s room more n bytes e h =
     let w = written_read s bytes n (room_done room (file_check s) n e) in
     let l = length-image (entries s) in
     let k = ap length w.2 in
     let es : map entry_of (read_tokens s room) ≡ entries s =
-    ap (λ (a : Answer). map entry_of (map token_in (entries_of s (delivered a)))) e ∙ ap (λ (m : ℕ). map entry_of (map token_in (entries_of s m))) w.0 ∙ entries_again (entries s) (passing-small 0 (entries s) w.1.passes) in
+    ap (λ (a : Result ℕ Refusal). map entry_of (map token_in (entries_of s (delivered a)))) e ∙ ap (λ (m : ℕ). map entry_of (map token_in (entries_of s m))) w.0 ∙ entries_again (entries s) (passing-small 0 (entries s) w.1.passes) in
     let r = writes (entries s) more w.1 (omega (arith, l, k)) in
-    rw es (r.0 ∙ ap Done (sym l ∙ k), r.1 ∙ w.2)
+    rw es (r.0 ∙ ap Ok (sym l ∙ k), r.1 ∙ w.2)
 
 -- what the reader delivers has the file's length, and so a count that fits
-pub few_read : (s : List ℕ) (room : ℕ) → Bytes s → (a : Answer) → a ≡ read_answer s room → delivered a ≤ count_limit
+pub few_read : (s : List ℕ) (room : ℕ) → Bytes s → (a : Result ℕ Refusal) → a ≡ read_answer s room → delivered a ≤ count_limit
 unfolding read_answer
-few_read s room bytes (Refused r) e = omega arith
-few_read s room bytes (Done n) e =
+few_read s room bytes (Err r) e = omega arith
+few_read s room bytes (Ok n) e =
     let w = written_read s bytes n (room_done room (file_check s) n (sym e)) in
     omega (arith, w.0, w.1.few, length-listed (entry_at s) 0 (count_in s))
 
 -- and fits the list
-pub room-read : (room : ℕ) (a : Answer) → delivered (room_for room a) ≤ room
-room-read room (Refused r) = omega arith
-room-read room (Done n) =
-    by_test (λ (x : Answer). delivered x ≤ room) (ltb room n) (Refused (refusal NoRoom 0)) (Done n) (λ t. omega arith) (λ t. ltb-false _ _ t)
+pub room-read : (room : ℕ) (a : Result ℕ Refusal) → delivered (room_for room a) ≤ room
+room-read room (Err r) = omega arith
+room-read room (Ok n) =
+    by_test (λ (x : Result ℕ Refusal). delivered x ≤ room) (ltb room n) (Err (refusal NoRoom 0)) (Ok n) (λ t. omega arith) (λ t. ltb-false _ _ t)
 
 -- of a file that is well formed, each record can be asked for alone
 small_at : (es : List Entry) (i : ℕ) (d : Entry) → AllSmall es → i < length es → Small (get_or es i d)
@@ -285,7 +282,7 @@ small_at [] i d h l = absurd (omega arith)
 small_at (e ∷ es) zero d h l = h.0
 small_at (e ∷ es) (suc i) d h l = small_at es i d h.1 (omega arith)
 
-pub record_found : (s : List ℕ) (n i : ℕ) → file_check s ≡ Done n → i < n → record_at s i ≡ Found.Record (token_in (entry_at s i))
+pub record_found : (s : List ℕ) (n i : ℕ) → file_check s ≡ Ok n → i < n → record_at s i ≡ Some (token_in (entry_at s i))
 unfolding record_at
 record_found s n i e h =
     let t = taken s n e in

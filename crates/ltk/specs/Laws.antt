@@ -1,6 +1,6 @@
 -- Laws of the layout: numbers as bytes and back, records as bytes and back, and what passed tests tell.
 use Prim.Native.Nat.{ℕ, zero, suc, ◌+◌, ◌*◌, ◌/◌, ◌%◌, ◌^◌, ◌≤◌, ◌<◌}
-use Rattle.std.specs.Prelude.{◌≡◌, Bool, true, false, cond, not, ◌||◌, ◌&&◌, List, [], ◌∷◌, ◌++◌, ltb, leb, length, get_or, take}
+use Rattle.std.specs.Prelude.{◌≡◌, Bool, true, false, cond, not, ◌||◌, ◌&&◌, List, [], ◌∷◌, ◌++◌, ltb, leb, length, get_or, take, Result, Ok}
 use Rattle.std.proofs.Math.Path.{refl, ap}
 use Rattle.std.proofs.Common.{sym, ◌∙◌, append_assoc, length-append, ltb-false, leb-false}
 use native.Mathlib.Omega.{arith}
@@ -9,10 +9,9 @@ use Rattle.std.proofs.Math.ListN.{drop}
 use Rattle.std.proofs.Math.Seq.{drop-cons, take-add, drop-drop}
 use Rattle.record.specs.Checks.{text_limit}
 use Rattle.ltk.specs.declared.Entry.{Entry}
-use Rattle.ltk.specs.declared.Answer.{Answer}
-use Rattle.ltk.specs.declared.Answer.TheVariants.{Done}
 use Rattle.ltk.specs.Layout.{header_size, record_size, record_place, little, number_at}
 use Rattle.ltk.specs.Ltk.{entry, record_bytes, header_bytes, flat, records_bytes, image, bad, bad_record, judged, judge, passing, entry_at, listed}
+use Rattle.record.specs.declared.Refusal.{Refusal}
 
 -- every number of a list is a byte
 abbrev pub Bytes : List ℕ → Type 0
@@ -113,21 +112,21 @@ passing-small before (e ∷ es) h =
     let p = and-true (bad before e) (passing e.end es) h in
     ((not-bad before e p.0).0, passing-small e.end es p.1)
 
-pub passing-judged : (i before : ℕ) (es : List Entry) → passing before es ≡ true → judged i before es ≡ Done (i + length es)
+pub passing-judged : (i before : ℕ) (es : List Entry) → passing before es ≡ true → judged i before es ≡ Ok (i + length es)
 unfolding passing judged
 passing-judged i before [] h =
     let e : i ≡ i + 0 = omega arith in
-    ap Done e
+    ap Ok e
 passing-judged i before (e ∷ es) h =
     let p = and-true (bad before e) (passing e.end es) h in
     let f : i + 1 + length es ≡ i + suc (length es) = omega arith in
-    rw p.0 (passing-judged (i + 1) e.end es p.1 ∙ ap Done f)
+    rw p.0 (passing-judged (i + 1) e.end es p.1 ∙ ap Ok f)
 
-done_by_lem : (t : Bool) (i n : ℕ) (x : Answer) → cond t (bad_record i) x ≡ Done n → (t ≡ false) × (x ≡ Done n)
+done_by_lem : (t : Bool) (i n : ℕ) (x : Result ℕ Refusal) → cond t (bad_record i) x ≡ Ok n → (t ≡ false) × (x ≡ Ok n)
 done_by_lem true i n x e = (cc, cc)
 done_by_lem false i n x e = (refl, e)
 
-pub judged_done : (i before : ℕ) (es : List Entry) (n : ℕ) → judged i before es ≡ Done n → (passing before es ≡ true) × (n ≡ i + length es)
+pub judged_done : (i before : ℕ) (es : List Entry) (n : ℕ) → judged i before es ≡ Ok n → (passing before es ≡ true) × (n ≡ i + length es)
 unfolding passing judged
 judged_done i before [] n h =
     let e : ◌≡◌ {A = ℕ} i n = cc in

@@ -6,5 +6,5 @@ pub mod Codes
 pub mod Faithful
 pub mod Examples
 -- the laws that lead there, and those that the code cites
-pub mod Steps
+pub mod Sources
 pub mod Laws

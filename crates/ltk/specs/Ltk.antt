@@ -1,21 +1,16 @@
 -- The LTK file: its image, its tests, and what the reader and the writer answer and leave behind.
-use Rattle.std.specs.Prelude.{ℕ, zero, suc, ◌+◌, ◌*◌, ◌/◌, Bool, true, cond, not, ◌||◌, ◌&&◌, List, [], ◌∷◌, ◌++◌, map, ltb, leb, eqb, length, get_or}
+use Rattle.std.specs.Prelude.{ℕ, zero, suc, ◌+◌, ◌*◌, ◌/◌, Bool, true, cond, not, ◌||◌, ◌&&◌, List, [], ◌∷◌, ◌++◌, map, ltb, leb, eqb, length, get_or, Option, Some, None, Result, Ok, Err}
 use Rattle.utf8.specs.Chars.{'L, 'T, 'K}
 use Rattle.record.specs.declared.Kind.{Kind}
 use Rattle.record.specs.declared.Kind.TheVariants.{Enum}
-use Rattle.record.specs.declared.Known.{Known}
-use Rattle.record.specs.declared.Known.TheVariants.{Kind as AKind, Nothing}
 use Rattle.record.specs.declared.Code.TheVariants.{TooLong, NoRoom, BadMark, UnknownVersion, BadLength, BadRecord}
 use Rattle.record.specs.declared.Token.{Token}
 use Rattle.record.specs.Numbers.{kind_number, kind_of}
 use Rattle.record.specs.Records.{refusal, token_of}
 use Rattle.record.specs.Checks.{text_limit}
 use Rattle.ltk.specs.declared.Entry.{Entry}
-use Rattle.ltk.specs.declared.Answer.{Answer}
-use Rattle.ltk.specs.declared.Found.{Found}
-use Rattle.ltk.specs.declared.Found.TheVariants as Found
-use Rattle.ltk.specs.declared.Answer.TheVariants.{Done, Refused}
 use Rattle.ltk.specs.Layout.{mark, version, version_place, count_place, header_size, start_place, end_place, last_kind, count_limit, record_place, little, number_at}
+use Rattle.record.specs.declared.Refusal.{Refusal}
 
 -- ---- records as the file has them: kind, start, end
 abbrev pub entry : ℕ → ℕ → ℕ → Entry
@@ -24,9 +19,9 @@ entry kind start end = record { kind = kind; start = start; end = end }
 abbrev pub entry_of : Token → Entry
 entry_of t = entry (kind_number t.kind) t.start t.end
 
-abbrev pub kind_in : Known → Kind
-kind_in (AKind k) = k
-kind_in Nothing = Enum
+abbrev pub kind_in : Option Kind → Kind
+kind_in (Some k) = k
+kind_in None = Enum
 
 -- 01: "payload places equal to start"
 abbrev pub token_in : Entry → Token
@@ -71,15 +66,15 @@ passing before (e ∷ es) = not (bad before e) && passing e.end es
 abbrev pub records_ok : List Token → Bool
 records_ok ts = passing 0 (map entry_of ts)
 
-abbrev pub bad_record : ℕ → Answer
-bad_record i = Refused (refusal BadRecord (record_place i))
+abbrev pub bad_record : ℕ → Result ℕ Refusal
+bad_record i = Err (refusal BadRecord (record_place i))
 
 -- the first bad record of those from index i on, where the one before them ends at `before`; or how many there are
-unfoldable pub judged : ℕ → ℕ → List Entry → Answer
-judged i before [] = Done i
+unfoldable pub judged : ℕ → ℕ → List Entry → Result ℕ Refusal
+judged i before [] = Ok i
 judged i before (e ∷ es) = cond (bad before e) (bad_record i) (judged (i + 1) e.end es)
 
-abbrev pub judge : List Entry → Answer
+abbrev pub judge : List Entry → Result ℕ Refusal
 judge es = judged 0 0 es
 
 -- ---- the reader
@@ -105,26 +100,26 @@ entries s = entries_of s (count_in s)
 
 -- 01: "17 comes first, for a mark wrong or cut; with fewer than 9 bytes 19 is next. Then 18, then 19 if length isn't
 -- 9 + 9 × count, then 20". A mark that is cut differs: past the end `get_or` gives 0
-unfoldable pub file_check : List ℕ → Answer
+unfoldable pub file_check : List ℕ → Result ℕ Refusal
 file_check s =
     cond (marked s)
-    (cond (ltb (length s) header_size) (Refused (refusal BadLength header_size))
+    (cond (ltb (length s) header_size) (Err (refusal BadLength header_size))
     (cond (eqb (number_at 2 s version_place) version)
-    (cond (eqb (length s) (record_place (count_in s))) (judge (entries s)) (Refused (refusal BadLength header_size)))
-    (Refused (refusal UnknownVersion version_place))))
-    (Refused (refusal BadMark 0))
+    (cond (eqb (length s) (record_place (count_in s))) (judge (entries s)) (Err (refusal BadLength header_size)))
+    (Err (refusal UnknownVersion version_place))))
+    (Err (refusal BadMark 0))
 
 -- 01: "last, 14 if the list is short"
-abbrev pub room_for : ℕ → Answer → Answer
-room_for room (Done n) = cond (ltb room n) (Refused (refusal NoRoom 0)) (Done n)
-room_for room (Refused r) = Refused r
+abbrev pub room_for : ℕ → Result ℕ Refusal → Result ℕ Refusal
+room_for room (Ok n) = cond (ltb room n) (Err (refusal NoRoom 0)) (Ok n)
+room_for room (Err r) = Err r
 
-unfoldable pub read_answer : List ℕ → ℕ → Answer
+unfoldable pub read_answer : List ℕ → ℕ → Result ℕ Refusal
 read_answer s room = room_for room (file_check s)
 
-abbrev pub delivered : Answer → ℕ
-delivered (Done n) = n
-delivered (Refused r) = 0
+abbrev pub delivered : Result ℕ Refusal → ℕ
+delivered (Ok n) = n
+delivered (Err r) = 0
 
 -- 01: "Neither writes when it refuses, or beyond its records."
 abbrev pub read_entries : List ℕ → ℕ → List Entry
@@ -137,25 +132,25 @@ unfoldable pub read_numbers : List ℕ → ℕ → List ℕ
 read_numbers s room = flat numbers_in (read_entries s room)
 
 -- one record of a file: the one at an index below the count, where its bytes are there and its kind has a name
-unfoldable pub record_at : List ℕ → ℕ → Found
+unfoldable pub record_at : List ℕ → ℕ → Option Token
 record_at s i =
     cond (ltb i (count_in s))
-    (cond (ltb (length s) (record_place (i + 1))) Found.Nothing
-    (cond (ltb last_kind (entry_at s i).kind) Found.Nothing (Found.Record (token_in (entry_at s i)))))
-    Found.Nothing
+    (cond (ltb (length s) (record_place (i + 1))) None
+    (cond (ltb last_kind (entry_at s i).kind) None (Some (token_in (entry_at s i)))))
+    None
 
 -- ---- the writer
 -- 01: "refuses, in this order, 12 for a count of 2^32 or more, 20 (place 9 + 9 × index) by the same tests, 14 for a short buffer"
-abbrev pub bytes_for : ℕ → Answer → Answer
-bytes_for room (Done n) = cond (ltb room (record_place n)) (Refused (refusal NoRoom 0)) (Done (record_place n))
-bytes_for room (Refused r) = Refused r
+abbrev pub bytes_for : ℕ → Result ℕ Refusal → Result ℕ Refusal
+bytes_for room (Ok n) = cond (ltb room (record_place n)) (Err (refusal NoRoom 0)) (Ok (record_place n))
+bytes_for room (Err r) = Err r
 
-unfoldable pub write_answer : List Entry → ℕ → Answer
-write_answer es room = cond (ltb (length es) count_limit) (bytes_for room (judge es)) (Refused (refusal TooLong 0))
+unfoldable pub write_answer : List Entry → ℕ → Result ℕ Refusal
+write_answer es room = cond (ltb (length es) count_limit) (bytes_for room (judge es)) (Err (refusal TooLong 0))
 
-abbrev pub bytes_by : Answer → List ℕ → List ℕ
-bytes_by (Done n) bs = bs
-bytes_by (Refused r) bs = []
+abbrev pub bytes_by : Result ℕ Refusal → List ℕ → List ℕ
+bytes_by (Ok n) bs = bs
+bytes_by (Err r) bs = []
 
 unfoldable pub written_bytes : List Entry → ℕ → List ℕ
 written_bytes es room = bytes_by (write_answer es room) (image es)

@@ -1,5 +1,5 @@
 -- The conditions of the file's refusals, each by itself: a file is refused for r exactly if it meets r's, so it meets no two.
-use Rattle.std.specs.Prelude.{ℕ, ◌<◌, ◌≤◌, Bool, true, false, List, ◌≡◌, refl, eqb, ltb, length}
+use Rattle.std.specs.Prelude.{ℕ, ◌<◌, ◌≤◌, Bool, true, false, List, ◌≡◌, refl, eqb, ltb, length, Err, Result}
 use Rattle.std.proofs.Common.{le-ltb, lt-ltb, sym, ◌∙◌}
 use Rattle.utf8.specs.Picks.{tests}
 use Rattle.record.specs.Records.{refusal}
@@ -7,7 +7,6 @@ use Rattle.record.specs.declared.Code.TheVariants.{BadLength, BadMark, UnknownVe
 use Rattle.record.specs.declared.Refusal.{Refusal}
 use Rattle.ltk.specs.Layout.{header_size, number_at, record_place, version, version_place}
 use Rattle.ltk.specs.Ltk.{bad_record, count_in, entries, file_check, judge, marked}
-use Rattle.ltk.specs.declared.Answer.TheVariants.{Refused}
 
 -- 01: "17 comes first, for a mark wrong or cut; with fewer than 9 bytes 19 is next. Then 18, then 19 if length isn't 9 + 9 × count, then 20"
 pub data Meets (s : List ℕ) (r : Refusal) : Type 0 where
@@ -17,10 +16,10 @@ pub data Meets (s : List ℕ) (r : Refusal) : Type 0 where
   other_length : r ≡ refusal BadLength header_size → marked s ≡ true → header_size ≤ length s → eqb (number_at 2 s version_place) version ≡ true
       → eqb (length s) (record_place (count_in s)) ≡ false → Meets s r
   bad_record_lem : marked s ≡ true → header_size ≤ length s → eqb (number_at 2 s version_place) version ≡ true → eqb (length s) (record_place (count_in s)) ≡ true
-      → judge (entries s) ≡ Refused r → Meets s r
+      → judge (entries s) ≡ Err r → Meets s r
 
 -- a file that meets a refusal's condition is refused so
-pub met_refused : (s : List ℕ) (r : Refusal) → Meets s r → file_check s ≡ Refused r
+pub met_refused : (s : List ℕ) (r : Refusal) → Meets s r → file_check s ≡ Err r
 unfolding file_check
 met_refused s r (other-mark e m) = rw (m, e)
 met_refused s r (too_short e m h) = rw (m, lt-ltb (length s) header_size h, e)
@@ -28,11 +27,11 @@ met_refused s r (other-version e m h v) = rw (m, le-ltb (length s) header_size h
 met_refused s r (other_length e m h v l) = rw (m, le-ltb (length s) header_size h, v, l, e)
 met_refused s r (bad_record_lem m h v l j) = rw (m, le-ltb (length s) header_size h, v, l, j)
 
-same-refusal : (q r : Refusal) → Refused q ≡ Refused r → r ≡ q
+same-refusal : (q r : Refusal) → ◌≡◌ {A = Result ℕ Refusal} (Err q) (Err r) → r ≡ q
 same-refusal q r e = cc
 
 -- and one that is refused meets the condition of its refusal
-pub refused_met : (s : List ℕ) (r : Refusal) → file_check s ≡ Refused r → Meets s r
+pub refused_met : (s : List ℕ) (r : Refusal) → file_check s ≡ Err r → Meets s r
 unfolding file_check
 refused_met s r e = go (marked s) (ltb (length s) header_size) (eqb (number_at 2 s version_place) version) (eqb (length s) (record_place (count_in s))) refl refl refl refl
   where

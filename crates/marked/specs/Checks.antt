@@ -1,28 +1,27 @@
 -- What the checks of parts and the place reporter answer, by computation.
-use Rattle.std.specs.Prelude.{List, [], ◌∷◌, ◌≡◌, refl, ℕ}
+use Rattle.std.specs.Prelude.{List, [], ◌∷◌, ◌≡◌, refl, ℕ, Result, Ok, Err}
 use Rattle.utf8.specs.Utf8.{chars, chars_from, high, lead, low, sight, width_of}
 use Rattle.record.specs.Records.{refusal, token_of}
-use Rattle.record.specs.declared.Checked.{Checked}
-use Rattle.record.specs.declared.Checked.TheVariants.{Passed, Refused}
 use Rattle.record.specs.declared.Code.TheVariants.{BadRecord}
 use Rattle.record.specs.declared.Kind.TheVariants.{RegexLiteral}
 use Rattle.run.specs.Payload.{is_payload, payload, payload_check}
 use Rattle.escapes.specs.Answers.{range_check}
 use Rattle.place.specs.Place.{before, bytes_to, ends, line_end, line_column, lines_ended, place_at, starts_newline, units, units_since}
 use Rattle.place.specs.declared.Place.{Place}
+use Rattle.record.specs.declared.Refusal.{Refusal}
 
 -- `r"é"`, five bytes, read with shift 7: its payload is the two bytes of the letter
 abbrev letter : List ℕ
 letter = 114 ∷ 34 ∷ 195 ∷ 169 ∷ 34 ∷ []
 
-abbrev check_of : ℕ → ℕ → Checked
+abbrev check_of : ℕ → ℕ → Result Unit Refusal
 check_of a b = payload_check letter 7 (token_of RegexLiteral 7 12 a b)
 
-abbrev bad : Checked
-bad = Refused (refusal BadRecord 0)
+abbrev bad : Result Unit Refusal
+bad = Err (refusal BadRecord 0)
 
 -- the letter; half of it; before the shift; backwards; beyond the text; the empty part at its end
-pub payloads : (check_of 9 11 ≡ Passed) × (check_of 9 10 ≡ bad) × (check_of 6 8 ≡ bad) × (check_of 11 9 ≡ bad) × (check_of 12 13 ≡ bad) × (check_of 12 12 ≡ Passed)
+pub payloads : (check_of 9 11 ≡ (Ok tt)) × (check_of 9 10 ≡ bad) × (check_of 6 8 ≡ bad) × (check_of 11 9 ≡ bad) × (check_of 12 13 ≡ bad) × (check_of 12 12 ≡ (Ok tt))
 unfolding is_payload payload_check
 payloads = (refl, refl, refl, refl, refl, refl)
 
@@ -31,7 +30,7 @@ unfolding is_payload payload
 payload-bytes = (refl, refl)
 
 -- of three bytes: a range that ends at the end, one beyond it, one backwards, the empty one at the end
-pub ranges : (range_check 3 1 3 ≡ Passed) × (range_check 3 2 4 ≡ bad) × (range_check 3 2 1 ≡ bad) × (range_check 3 3 3 ≡ Passed)
+pub ranges : (range_check 3 1 3 ≡ (Ok tt)) × (range_check 3 2 4 ≡ bad) × (range_check 3 2 1 ≡ bad) × (range_check 3 3 3 ≡ (Ok tt))
 unfolding range_check
 ranges = (refl, refl, refl, refl)
 

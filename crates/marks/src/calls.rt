@@ -1,15 +1,13 @@
 // Single calls, run::next with a lent tokenizer: the end and an error are repeated, a cursor off the boundaries is refused.
-use crate::say::{named, record_line, refusal, say, state};
+use crate::say::{named, record_line, state};
 use reading::{Tokenizer, What};
 use record::Token;
-
-const MOST: u64 = 18446744073709551615;
+use shown::{refusal, say};
 
 fn token(rt: &impl Print, t: Token) {
-    let k = t.kind;
     record_line(
         rt,
-        record::kind_number(k) as u64,
+        u64::from(record::kind_number(t.kind)),
         t.start,
         t.end,
         t.payload_start,
@@ -19,9 +17,8 @@ fn token(rt: &impl Print, t: Token) {
 
 // A call, and the tokenizer after it.
 fn call(rt: &impl Print, text: &[u8], t: Tokenizer) -> Tokenizer {
-    let s = lent::next_lent(text, 0, MOST, t);
-    let what = s.what;
-    match what {
+    let s = lent::next_lent(text, 0, u64::MAX, t);
+    match s.what {
         What::Got(x) => token(rt, x),
         What::Error(r) => refusal(rt, r),
         What::End => say(rt, b"end\n"),
@@ -49,20 +46,10 @@ pub(crate) fn to_an_error(rt: &impl Print) {
 
 pub(crate) fn off_the_boundaries(rt: &impl Print) {
     named(rt, b"a two-byte letter, from its middle");
-    let t = tok::start();
-    let done = t.done;
-    let reading = t.reading;
-    state(
-        rt,
-        call(
-            rt,
-            b"\xc3\xa9",
-            Tokenizer {
-                at: 1,
-                count: 9,
-                done,
-                reading,
-            },
-        ),
-    );
+    let t = Tokenizer {
+        at: 1,
+        count: 9,
+        ..tok::start()
+    };
+    state(rt, call(rt, b"\xc3\xa9", t));
 }

@@ -1,24 +1,14 @@
 // Whole runs.
 use crate::say::{last_line, named, record_line};
 
-const MOST: u64 = 18446744073709551615;
+const MOST: u64 = u64::MAX;
 
 // The lines of count records, each a group of five numbers.
 fn records(rt: &impl Print, list: &[u64], count: usize) {
-    let mut p: usize = 0;
-    for _ in 0..count {
-        if list.len() - p < 5 {
-            return;
+    for r in list.chunks_exact(5).take(count) {
+        if let [kind, start, end, a, b] = r {
+            record_line(rt, *kind, *start, *end, *a, *b);
         }
-        record_line(
-            rt,
-            list[p],
-            list[p + 1],
-            list[p + 2],
-            list[p + 3],
-            list[p + 4],
-        );
-        p += 5;
     }
 }
 
@@ -28,8 +18,7 @@ fn example(rt: &impl Print, name: &[u8], text: &[u8], shift: u64, limit: u64) {
     let mut list = [0u64; 64];
     let ran = lent::run_listed(text, shift, limit, &mut list, tok::start());
     records(rt, &list, ran.stored);
-    let how = ran.how;
-    last_line(rt, how, ran.advances);
+    last_line(rt, ran.how, ran.advances);
 }
 
 // The same with room for two records: run::run_numbers.
@@ -38,16 +27,14 @@ fn in_two(rt: &impl Print, name: &[u8], text: &[u8]) {
     let mut list = [0u64; 14];
     let ran = run::run_numbers(text, 0, MOST, &mut list, tok::start());
     records(rt, &list, ran.stored);
-    let how = ran.how;
-    last_line(rt, how, ran.advances);
+    last_line(rt, ran.how, ran.advances);
 }
 
 fn in_none(rt: &impl Print, name: &[u8], text: &[u8]) {
     named(rt, name);
     let mut list = [0u64; 4];
     let ran = run::run_numbers(text, 0, MOST, &mut list, tok::start());
-    let how = ran.how;
-    last_line(rt, how, ran.advances);
+    last_line(rt, ran.how, ran.advances);
 }
 
 // A text that is printed as it is.
@@ -110,6 +97,6 @@ pub(crate) fn rooms(rt: &impl Print) {
 pub(crate) fn shifts(rt: &impl Print) {
     example(rt, b"a, shift 2^64 - 1", b"a", MOST, MOST);
     example(rt, b"empty, shift 2^64 - 1", b"", MOST, MOST);
-    example(rt, b"a, shift 2^64 - 2", b"a", 18446744073709551614, MOST);
+    example(rt, b"a, shift 2^64 - 2", b"a", MOST - 1, MOST);
     example(rt, b"a and the byte 255, shift 7", b"a\xff", 7, MOST);
 }

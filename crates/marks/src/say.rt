@@ -1,51 +1,11 @@
-// What this program prints with.
+// What this program prints with besides.
 use reading::{Outcome, Tokenizer};
 use record::Refusal;
-use text::Came;
-
-// What cannot be written is let go.
-pub(crate) fn say(rt: &impl Print, words: &[u8]) {
-    let _ = rt.write_all(words);
-}
-
-fn number(rt: &impl Print, n: u64) {
-    let _ = print!(rt; "{n}");
-}
-
-// The bytes of a buffer up to where they came.
-fn came(rt: &impl Print, buffer: &[u8], to: Came) {
-    match to {
-        Came::To(n) => {
-            if n <= buffer.len() {
-                say(rt, &buffer[..n]);
-            }
-        }
-        Came::Full => say(rt, b"does not fit"),
-    }
-}
+use shown::{came, kind, number, say};
 
 pub(crate) fn named(rt: &impl Print, name: &[u8]) {
     say(rt, name);
     say(rt, b"\n");
-}
-
-fn kind(rt: &impl Print, n: u64) {
-    let mut buffer = [0u8; 32];
-    let to = text::kind_name(&mut buffer, Came::To(0), n);
-    came(rt, &buffer, to);
-}
-
-// `error NAME at P`
-pub(crate) fn refusal(rt: &impl Print, r: Refusal) {
-    let c = r.code;
-    let mut buffer = [0u8; 128];
-    let to = text::refusal_line(
-        &mut buffer,
-        Came::To(0),
-        record::code_number(c) as u64,
-        r.place,
-    );
-    came(rt, &buffer, to);
 }
 
 // A record's line, with its payload's places where it has one.
@@ -65,12 +25,11 @@ pub(crate) fn record_line(rt: &impl Print, k: u64, start: u64, end: u64, a: u64,
 }
 
 fn error_line(rt: &impl Print, r: Refusal, advances: u64) {
-    let c = r.code;
     let mut buffer = [0u8; 128];
     let to = text::error_line(
         &mut buffer,
-        Came::To(0),
-        record::code_number(c) as u64,
+        Some(0),
+        u64::from(record::code_number(r.code)),
         r.place,
         advances,
     );

@@ -1,5 +1,5 @@
 -- The promises in numbers of what the readers answer to other parts of the tokenizer: of `scan::Skip` and `scan::Turn`.
-use Rattle.scan.specs.declared.Skip.{Skip}
+use Rattle.scan.specs.Shapes.{Skip}
 use Rattle.scan.specs.declared.Turn.{Turn}
 use Rattle.numbers.specs.Inner.{skip-same, skip_numbers, turn-same, turn_numbers}
 use Rattle.numbers.specs.Promised.{Tells, tells}

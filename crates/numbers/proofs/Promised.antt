@@ -1,14 +1,12 @@
 -- THE PROMISES IN NUMBERS of the tokenizer, the checks, an expansion, places, the LTK file and the sheet. The definitions, and further promises, stand in
 -- specs/Promised.antt.
-use Rattle.std.specs.Prelude.{ℕ, ◌+◌, ◌*◌, ◌/◌, Bool, List, [], ◌∷◌, map, ◌≡◌, eqb, ltb, get_or, length}
+use Rattle.std.specs.Prelude.{ℕ, ◌+◌, ◌*◌, ◌/◌, Bool, List, [], ◌∷◌, map, ◌≡◌, eqb, ltb, get_or, length, Result, Ok, Err}
 use Rattle.std.proofs.Common.{◌∙◌}
 use Rattle.std.proofs.Math.Bool.{cond, false, true}
 use Rattle.std.proofs.Math.Path.{refl, ap}
 use Rattle.utf8.specs.Chars.{'backslash}
 use Rattle.utf8.specs.Utf8.{verdict}
 use Rattle.record.specs.Checks.{checks, shift_limit, text_limit}
-use Rattle.record.specs.declared.Checked.{Checked}
-use Rattle.record.specs.declared.Checked.TheVariants.{Passed, Refused as Stopped}
 use Rattle.record.specs.declared.Token.{Token}
 use Rattle.reading.specs.declared.Outcome.{Outcome}
 use Rattle.reading.specs.declared.Tokenizer.{Tokenizer}
@@ -18,13 +16,9 @@ use Rattle.run.specs.Numbers.{group_size}
 use Rattle.run.specs.Pending.{begin_of}
 use Rattle.escapes.specs.Answers.{applied, checked, expanded, fit}
 use Rattle.escapes.specs.Escapes.{Outcome as Expansion, expand, gives, has_byte, refused}
-use Rattle.escapes.specs.declared.Expanded.{Expanded}
 use Rattle.place.specs.Place.{located, reported}
-use Rattle.place.specs.declared.Located.{Located}
-use Rattle.place.specs.declared.Reported.{Reported}
 use Rattle.ltk.specs.Layout.{count_limit, number_at, record_place}
 use Rattle.ltk.specs.Ltk.{count_in, entries, entries_in, entry_of, file_check, judged, marked, read_answer, write_answer}
-use Rattle.ltk.specs.declared.Answer.{Answer}
 use Rattle.ltk.specs.declared.Entry.{Entry}
 use Rattle.sheet.specs.Sheet.{taken}
 use Rattle.sheet.specs.declared.Taken.{Taken}
@@ -32,6 +26,9 @@ use Rattle.numbers.proofs.Same.{expanded-same}
 use Rattle.numbers.specs.Promised.{Tells, tells, numbers_test, text_numbers, text-told, fit_numbers, pass_numbers, judged_numbers, judged-told, short_numbers, bytes-told}
 use Rattle.numbers.specs.Same.{answer-same, checked-same, located-same, outcome_same, reported-same, taken-same, what_same}
 use Rattle.numbers.specs.Values.{answer_numbers, checked_numbers, expanded_numbers, located_numbers, outcome_numbers, reported_numbers, taken_numbers, what_numbers}
+use Rattle.escapes.specs.declared.Part.{Part}
+use Rattle.place.specs.declared.Place.{Place}
+use Rattle.record.specs.declared.Refusal.{Refusal}
 
 -- ---- the tokenizer
 module _ (s : List ℕ) (shift limit : ℕ) (t : Tokenizer) where
@@ -52,17 +49,17 @@ module _ (s : List ℕ) (shift limit : ℕ) (t : Tokenizer) where
   begin-told room r = tells outcome_numbers outcome_same r _
 
 -- ---- the checks. `record::checks`
-pub checks-told : (s : List ℕ) (shift : ℕ) (r : Checked) → r ≡ checks s shift
+pub checks-told : (s : List ℕ) (shift : ℕ) (r : Result Unit Refusal) → r ≡ checks s shift
     → checked_numbers r ≡ cond (ltb text_limit (length s)) (12 ∷ 0 ∷ []) (cond (ltb shift_limit (shift + length s)) (13 ∷ 0 ∷ []) (text_numbers shift (verdict s)))
 unfolding checks
 checks-told s shift r e = rw (e, numbers_test checked_numbers, numbers_test checked_numbers, text-told)
 
 -- both ways of each
-pub check_told : (r d : Checked) → Tells checked_numbers r d
+pub check_told : (r d : Result Unit Refusal) → Tells checked_numbers r d
 check_told r d = tells checked_numbers checked-same r d
 
 -- ---- an expansion. `escapes::apply_string_escapes`
-pub expand-told : (s : List ℕ) (idx0 : ℕ) (d : List ℕ) (place : ℕ) (r : Expanded) → Tells expanded_numbers r (applied s idx0 d place).answer
+pub expand-told : (s : List ℕ) (idx0 : ℕ) (d : List ℕ) (place : ℕ) (r : Result Part Refusal) → Tells expanded_numbers r (applied s idx0 d place).answer
 expand-told s idx0 d place r = tells expanded_numbers expanded-same r _
 
 module _ (s : List ℕ) (idx0 : ℕ) (d : List ℕ) (place : ℕ) where
@@ -85,38 +82,38 @@ module _ (s : List ℕ) (idx0 : ℕ) (d : List ℕ) (place : ℕ) where
       go true q = rw q (fit-told (expand s idx0))
       go false q = rw q
 
-  pub applied-told : (r : Expanded) → r ≡ (applied s idx0 d place).answer → expanded_numbers r ≡ pass_numbers (checks s idx0) whole_numbers
+  pub applied-told : (r : Result Part Refusal) → r ≡ (applied s idx0 d place).answer → expanded_numbers r ≡ pass_numbers (checks s idx0) whole_numbers
   unfolding applied
   applied-told r e = ap expanded_numbers e ∙ go (checks s idx0)
     where
-      go : (c : Checked) → expanded_numbers (checked c (expanded s idx0 d place) d).answer ≡ pass_numbers c whole_numbers
-      go Passed = expanded-told
-      go (Stopped z) = refl
+      go : (c : Result Unit Refusal) → expanded_numbers (checked c (expanded s idx0 d place) d).answer ≡ pass_numbers c whole_numbers
+      go (Ok tt) = expanded-told
+      go (Err z) = refl
 
 -- ---- line and column, and back. `place::line_column` and `place::place_at`
-pub place_told : (s : List ℕ) (p : ℕ) (r : Reported) → Tells reported_numbers r (reported s p)
+pub place_told : (s : List ℕ) (p : ℕ) (r : Result Place Refusal) → Tells reported_numbers r (reported s p)
 place_told s p r = tells reported_numbers reported-same r _
 
-pub place_at-told : (s : List ℕ) (line column : ℕ) (r : Located) → Tells located_numbers r (located s line column)
+pub place_at-told : (s : List ℕ) (line column : ℕ) (r : Result ℕ Refusal) → Tells located_numbers r (located s line column)
 place_at-told s line column r = tells located_numbers located-same r _
 
 -- ---- the LTK file
 -- `ltk::read` and `ltk::read_answer`; `ltk::read_numbers` with so many numbers
-pub read_told : (file : List ℕ) (room : ℕ) (r : Answer) → Tells answer_numbers r (read_answer file room)
+pub read_told : (file : List ℕ) (room : ℕ) (r : Result ℕ Refusal) → Tells answer_numbers r (read_answer file room)
 read_told file room r = tells answer_numbers answer-same r _
 
-pub read_numbers_told : (file : List ℕ) (size : ℕ) (r : Answer) → Tells answer_numbers r (read_answer file (size / group_size))
+pub read_numbers_told : (file : List ℕ) (size : ℕ) (r : Result ℕ Refusal) → Tells answer_numbers r (read_answer file (size / group_size))
 read_numbers_told file size r = tells answer_numbers answer-same r _
 
 -- `ltk::write`, `ltk::write_numbers`
-pub write-told : (list : List Token) (room : ℕ) (r : Answer) → Tells answer_numbers r (write_answer (map entry_of list) room)
+pub write-told : (list : List Token) (room : ℕ) (r : Result ℕ Refusal) → Tells answer_numbers r (write_answer (map entry_of list) room)
 write-told list room r = tells answer_numbers answer-same r _
 
-pub write_numbers_told : (list : List ℕ) (room : ℕ) (r : Answer) → Tells answer_numbers r (write_answer (entries_in list) room)
+pub write_numbers_told : (list : List ℕ) (room : ℕ) (r : Result ℕ Refusal) → Tells answer_numbers r (write_answer (entries_in list) room)
 write_numbers_told list room r = tells answer_numbers answer-same r _
 
 -- `ltk::check`
-pub file-told : (file : List ℕ) (r : Answer) → r ≡ file_check file
+pub file-told : (file : List ℕ) (r : Result ℕ Refusal) → r ≡ file_check file
     → answer_numbers r
     ≡ cond (marked file)
     (cond (ltb (length file) 9) (19 ∷ 9 ∷ 0 ∷ [])
@@ -126,7 +123,7 @@ unfolding file_check
 file-told file r e = simp (e, numbers_test answer_numbers, judged-told)
 
 -- the writer: "12 for a count of 2^32 or more, 20 .. by the same tests, 14 for a short buffer"
-pub write-answer-told : (es : List Entry) (room : ℕ) (r : Answer) → r ≡ write_answer es room
+pub write-answer-told : (es : List Entry) (room : ℕ) (r : Result ℕ Refusal) → r ≡ write_answer es room
     → answer_numbers r
     ≡ cond (ltb (length es) count_limit)
     (short_numbers (ltb room (record_place (get_or (judged_numbers 0 0 es) 2 0))) (record_place (get_or (judged_numbers 0 0 es) 2 0)) (judged_numbers 0 0 es))

@@ -1,39 +1,25 @@
 -- Nothing is lost by the numbers: no two answers have the same.
 -- That of `escapes::Expanded` stands in proofs/Same.antt.
-use Rattle.std.specs.Prelude.{ℕ, List, [], ◌++◌, ◌≡◌, refl}
+use Rattle.std.specs.Prelude.{ℕ, List, [], ◌++◌, ◌≡◌, refl, Option, Some, None, Result, Ok, Err}
 use Rattle.std.proofs.Common.{arith, append-nil, sym, ap, ◌∙◌}
 use Rattle.record.specs.Numbers.{code_again, code_number, code_of, codes, kind_again, kind_number, kind_of}
-use Rattle.record.specs.declared.Checked.{Checked}
-use Rattle.record.specs.declared.Checked.TheVariants.{Passed, Refused as Stopped}
 use Rattle.record.specs.declared.Code.{Code}
 use Rattle.record.specs.declared.Code.TheVariants.{UnrecognizedToken}
-use Rattle.record.specs.declared.Chosen.{Chosen}
-use Rattle.record.specs.declared.Chosen.TheVariants.{Nothing as NotChosen, Reading as AReading}
 use Rattle.record.specs.declared.Kind.{Kind}
-use Rattle.record.specs.declared.Known.{Known}
-use Rattle.record.specs.declared.Known.TheVariants.{Kind as AKind, Nothing as Unknown}
 use Rattle.record.specs.declared.Reading.TheVariants.{Kept, Old}
 use Rattle.record.specs.declared.Refusal.{Refusal}
 use Rattle.record.specs.declared.Token.{Token}
-use Rattle.record.specs.declared.Told.{Told}
-use Rattle.record.specs.declared.Told.TheVariants.{Is, Unknown as NotTold}
 use Rattle.reading.specs.declared.Outcome.{Outcome}
 use Rattle.reading.specs.declared.Outcome.TheVariants.{Ended, Refused, Running}
 use Rattle.reading.specs.declared.What.{What}
 use Rattle.reading.specs.declared.What.TheVariants.{End, Error, Got}
 use Rattle.escapes.specs.declared.Held.{Held}
 use Rattle.escapes.specs.declared.Held.TheVariants.{Buffer, Text}
-use Rattle.place.specs.declared.Located.{Located}
-use Rattle.place.specs.declared.Located.TheVariants.{At as There, Refused as NotLocated}
-use Rattle.place.specs.declared.Reported.{Reported}
-use Rattle.place.specs.declared.Reported.TheVariants.{At as APlace, Refused as NotReported}
-use Rattle.ltk.specs.declared.Answer.{Answer}
-use Rattle.ltk.specs.declared.Answer.TheVariants.{Done, Refused as NotDone}
-use Rattle.ltk.specs.declared.Found.{Found}
-use Rattle.ltk.specs.declared.Found.TheVariants.{Nothing, Record}
 use Rattle.sheet.specs.declared.Taken.{Taken}
 use Rattle.sheet.specs.declared.Taken.TheVariants.{Refused as NotTaken, Tallied, Whole}
 use Rattle.numbers.specs.Values.{answer_numbers, checked_numbers, chosen_numbers, found_numbers, held_number, known_numbers, located_numbers, outcome_numbers, reported_numbers, taken_numbers, token_numbers, told_numbers, what_numbers}
+use Rattle.place.specs.declared.Place.{Place}
+use Rattle.record.specs.declared.Reading.{Reading}
 
 -- ---- codes, kinds, refusals and tokens
 pub code_same : (c d : Code) → code_number c ≡ code_number d → c ≡ d
@@ -48,16 +34,16 @@ code-some c e =
     omega arith
 
 pub kind_same : (j k : Kind) → kind_number j ≡ kind_number k → j ≡ k
-kind_same j k e = let h : AKind j ≡ AKind k = sym (kind_again j) ∙ ap kind_of e ∙ kind_again k in cc
+kind_same j k e = let h : Some j ≡ Some k = sym (kind_again j) ∙ ap kind_of e ∙ kind_again k in cc
 
 pub refusal-same : (q r : Refusal) → code_number q.code ≡ code_number r.code → q.place ≡ r.place → q ≡ r
 refusal-same q r c p = let h = code_same q.code r.code c in rw (h, p)
 
-told_same : (a b : Told) (xs ys : List ℕ) → told_numbers a ++ xs ≡ told_numbers b ++ ys → (a ≡ b) × (xs ≡ ys)
-told_same (Is n) (Is m) xs ys e = let h : n ≡ m = cc in (ap Is h, cc)
-told_same (Is n) NotTold xs ys e = let z : ◌≡◌ {A = ℕ} 0 1 = cc in absurd (omega arith)
-told_same NotTold (Is m) xs ys e = let z : ◌≡◌ {A = ℕ} 0 1 = cc in absurd (omega arith)
-told_same NotTold NotTold xs ys e = (refl, cc)
+told_same : (a b : Option ℕ) (xs ys : List ℕ) → told_numbers a ++ xs ≡ told_numbers b ++ ys → (a ≡ b) × (xs ≡ ys)
+told_same (Some n) (Some m) xs ys e = let h : n ≡ m = cc in (ap Some h, cc)
+told_same (Some n) None xs ys e = let z : ◌≡◌ {A = ℕ} 0 1 = cc in absurd (omega arith)
+told_same None (Some m) xs ys e = let z : ◌≡◌ {A = ℕ} 0 1 = cc in absurd (omega arith)
+told_same None None xs ys e = (refl, cc)
 
 pub token-same : (t u : Token) → token_numbers t ≡ token_numbers u → t ≡ u
 token-same t u e =
@@ -102,53 +88,53 @@ outcome_same (Refused r) Running e = cc
 outcome_same (Refused r) Ended e = let h : code_number r.code ≡ 0 = cc in absurd (code-some r.code h)
 outcome_same (Refused q) (Refused r) e = ap Refused (refusal-same q r (cc) (cc))
 
-pub checked-same : (a b : Checked) → checked_numbers a ≡ checked_numbers b → a ≡ b
-checked-same Passed Passed e = refl
-checked-same Passed (Stopped r) e = let h : code_number r.code ≡ 0 = cc in absurd (code-some r.code h)
-checked-same (Stopped r) Passed e = let h : code_number r.code ≡ 0 = cc in absurd (code-some r.code h)
-checked-same (Stopped q) (Stopped r) e = ap Stopped (refusal-same q r (cc) (cc))
+pub checked-same : (a b : Result Unit Refusal) → checked_numbers a ≡ checked_numbers b → a ≡ b
+checked-same (Ok u) (Ok v) e = refl
+checked-same (Ok tt) (Err r) e = let h : code_number r.code ≡ 0 = cc in absurd (code-some r.code h)
+checked-same (Err r) (Ok tt) e = let h : code_number r.code ≡ 0 = cc in absurd (code-some r.code h)
+checked-same (Err q) (Err r) e = ap Err (refusal-same q r (cc) (cc))
 
-pub known_same : (a b : Known) → known_numbers a ≡ known_numbers b → a ≡ b
-known_same (AKind j) (AKind k) e = ap AKind (kind_same j k (cc))
-known_same (AKind j) Unknown e = cc
-known_same Unknown (AKind k) e = cc
-known_same Unknown Unknown e = refl
+pub known_same : (a b : Option Kind) → known_numbers a ≡ known_numbers b → a ≡ b
+known_same (Some j) (Some k) e = ap Some (kind_same j k (cc))
+known_same (Some j) None e = cc
+known_same None (Some k) e = cc
+known_same None None e = refl
 
-pub chosen_same : (a b : Chosen) → chosen_numbers a ≡ chosen_numbers b → a ≡ b
-chosen_same (AReading Old) (AReading Old) e = refl
-chosen_same (AReading Kept) (AReading Kept) e = refl
-chosen_same (AReading Old) (AReading Kept) e = let w : ◌≡◌ {A = ℕ} 0 1 = cc in absurd (omega arith)
-chosen_same (AReading Kept) (AReading Old) e = let w : ◌≡◌ {A = ℕ} 0 1 = cc in absurd (omega arith)
-chosen_same (AReading rd) NotChosen e = cc
-chosen_same NotChosen (AReading rd) e = cc
-chosen_same NotChosen NotChosen e = refl
+pub chosen_same : (a b : Option Reading) → chosen_numbers a ≡ chosen_numbers b → a ≡ b
+chosen_same (Some Old) (Some Old) e = refl
+chosen_same (Some Kept) (Some Kept) e = refl
+chosen_same (Some Old) (Some Kept) e = let w : ◌≡◌ {A = ℕ} 0 1 = cc in absurd (omega arith)
+chosen_same (Some Kept) (Some Old) e = let w : ◌≡◌ {A = ℕ} 0 1 = cc in absurd (omega arith)
+chosen_same (Some rd) None e = cc
+chosen_same None (Some rd) e = cc
+chosen_same None None e = refl
 
-pub reported-same : (a b : Reported) → reported_numbers a ≡ reported_numbers b → a ≡ b
-reported-same (APlace p) (APlace q) e =
+pub reported-same : (a b : Result Place Refusal) → reported_numbers a ≡ reported_numbers b → a ≡ b
+reported-same (Ok p) (Ok q) e =
     let h : p.line ≡ q.line = cc in
     let i : p.column ≡ q.column = cc in
-    ap APlace (rw (h, i))
-reported-same (APlace p) (NotReported r) e = let h : code_number r.code ≡ 0 = cc in absurd (code-some r.code h)
-reported-same (NotReported r) (APlace q) e = let h : code_number r.code ≡ 0 = cc in absurd (code-some r.code h)
-reported-same (NotReported q) (NotReported r) e = ap NotReported (refusal-same q r (cc) (cc))
+    ap Ok (rw (h, i))
+reported-same (Ok p) (Err r) e = let h : code_number r.code ≡ 0 = cc in absurd (code-some r.code h)
+reported-same (Err r) (Ok q) e = let h : code_number r.code ≡ 0 = cc in absurd (code-some r.code h)
+reported-same (Err q) (Err r) e = ap Err (refusal-same q r (cc) (cc))
 
-pub located-same : (a b : Located) → located_numbers a ≡ located_numbers b → a ≡ b
-located-same (There p) (There q) e = ap There (cc)
-located-same (There p) (NotLocated r) e = let h : code_number r.code ≡ 0 = cc in absurd (code-some r.code h)
-located-same (NotLocated r) (There q) e = let h : code_number r.code ≡ 0 = cc in absurd (code-some r.code h)
-located-same (NotLocated q) (NotLocated r) e = ap NotLocated (refusal-same q r (cc) (cc))
+pub located-same : (a b : Result ℕ Refusal) → located_numbers a ≡ located_numbers b → a ≡ b
+located-same (Ok p) (Ok q) e = ap Ok (cc)
+located-same (Ok p) (Err r) e = let h : code_number r.code ≡ 0 = cc in absurd (code-some r.code h)
+located-same (Err r) (Ok q) e = let h : code_number r.code ≡ 0 = cc in absurd (code-some r.code h)
+located-same (Err q) (Err r) e = ap Err (refusal-same q r (cc) (cc))
 
-pub answer-same : (a b : Answer) → answer_numbers a ≡ answer_numbers b → a ≡ b
-answer-same (Done n) (Done m) e = ap Done (cc)
-answer-same (Done n) (NotDone r) e = let h : code_number r.code ≡ 0 = cc in absurd (code-some r.code h)
-answer-same (NotDone r) (Done m) e = let h : code_number r.code ≡ 0 = cc in absurd (code-some r.code h)
-answer-same (NotDone q) (NotDone r) e = ap NotDone (refusal-same q r (cc) (cc))
+pub answer-same : (a b : Result ℕ Refusal) → answer_numbers a ≡ answer_numbers b → a ≡ b
+answer-same (Ok n) (Ok m) e = ap Ok (cc)
+answer-same (Ok n) (Err r) e = let h : code_number r.code ≡ 0 = cc in absurd (code-some r.code h)
+answer-same (Err r) (Ok m) e = let h : code_number r.code ≡ 0 = cc in absurd (code-some r.code h)
+answer-same (Err q) (Err r) e = ap Err (refusal-same q r (cc) (cc))
 
-pub found-same : (a b : Found) → found_numbers a ≡ found_numbers b → a ≡ b
-found-same (Record t) (Record u) e = ap Record (token-same t u e)
-found-same (Record t) Nothing e = cc
-found-same Nothing (Record u) e = cc
-found-same Nothing Nothing e = refl
+pub found-same : (a b : Option Token) → found_numbers a ≡ found_numbers b → a ≡ b
+found-same (Some t) (Some u) e = ap Some (token-same t u e)
+found-same (Some t) None e = cc
+found-same None (Some u) e = cc
+found-same None None e = refl
 
 pub taken-same : (a b : Taken) → taken_numbers a ≡ taken_numbers b → a ≡ b
 taken-same Whole Whole e = refl

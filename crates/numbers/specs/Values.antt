@@ -1,37 +1,23 @@
 -- THE NUMBERS OF EVERY ANSWER. 01: "When an answer is an enum, a definition gives this paper's number and values for each enum case. The promises use
 -- this definition." Here for each enum that a public function answers. Where it can refuse, the first number is the refusal's number in 01's table, 0
 -- where nothing is refused; the second is its place, 0 where nothing is refused; then come the values. Where nothing is answered there are no numbers.
-use Rattle.std.specs.Prelude.{ℕ, List, [], ◌∷◌, ◌++◌, get_or}
+use Rattle.std.specs.Prelude.{ℕ, List, [], ◌∷◌, ◌++◌, get_or, Option, Some, None, Result, Ok, Err}
 use Rattle.record.specs.Numbers.{code_number, kind_number}
 use Rattle.record.specs.Readings.{reading_number}
-use Rattle.record.specs.declared.Checked.{Checked}
-use Rattle.record.specs.declared.Checked.TheVariants.{Passed, Refused as Stopped}
-use Rattle.record.specs.declared.Chosen.{Chosen}
-use Rattle.record.specs.declared.Chosen.TheVariants.{Nothing as NotChosen, Reading as AReading}
-use Rattle.record.specs.declared.Known.{Known}
-use Rattle.record.specs.declared.Known.TheVariants.{Kind as AKind, Nothing as Unknown}
 use Rattle.record.specs.declared.Refusal.{Refusal}
 use Rattle.record.specs.declared.Token.{Token}
-use Rattle.record.specs.declared.Told.{Told}
-use Rattle.record.specs.declared.Told.TheVariants.{Is, Unknown as NotTold}
 use Rattle.reading.specs.declared.Outcome.{Outcome}
 use Rattle.reading.specs.declared.Outcome.TheVariants.{Ended, Refused, Running}
 use Rattle.reading.specs.declared.What.{What}
 use Rattle.reading.specs.declared.What.TheVariants.{End, Error, Got}
 use Rattle.run.specs.Numbers.{numbers_of}
-use Rattle.escapes.specs.declared.Expanded.{Expanded}
-use Rattle.escapes.specs.declared.Expanded.TheVariants.{Part as APart, Refused as NotExpanded}
 use Rattle.escapes.specs.declared.Held.{Held}
 use Rattle.escapes.specs.declared.Held.TheVariants.{Buffer, Text}
-use Rattle.place.specs.declared.Located.{Located}
-use Rattle.place.specs.declared.Located.TheVariants.{At as There, Refused as NotLocated}
-use Rattle.place.specs.declared.Reported.{Reported}
-use Rattle.place.specs.declared.Reported.TheVariants.{At as APlace, Refused as NotReported}
-use Rattle.ltk.specs.declared.Answer.{Answer}
-use Rattle.ltk.specs.declared.Answer.TheVariants.{Done, Refused as NotDone}
-use Rattle.ltk.specs.declared.Found.{Found}
-use Rattle.ltk.specs.declared.Found.TheVariants.{Nothing, Record}
 use Rattle.sheet.specs.declared.Taken.{Taken}
+use Rattle.escapes.specs.declared.Part.{Part}
+use Rattle.place.specs.declared.Place.{Place}
+use Rattle.record.specs.declared.Reading.{Reading}
+use Rattle.record.specs.declared.Kind.{Kind}
 use Rattle.sheet.specs.declared.Taken.TheVariants.{Refused as NotTaken, Tallied, Whole}
 
 -- 01: "A refusal is a record of its code and its place."
@@ -43,9 +29,9 @@ abbrev pub no_refusal : List ℕ
 no_refusal = 0 ∷ 0 ∷ []
 
 -- `record::Told`, what a record tells besides: 1 and the number where it is known
-abbrev pub told_numbers : Told → List ℕ
-told_numbers (Is n) = 1 ∷ n ∷ []
-told_numbers NotTold = 0 ∷ 0 ∷ []
+abbrev pub told_numbers : Option ℕ → List ℕ
+told_numbers (Some n) = 1 ∷ n ∷ []
+told_numbers None = 0 ∷ 0 ∷ []
 
 -- a token by its "kind, start, end, payload start, payload end", and its two depths
 abbrev pub token_numbers : Token → List ℕ
@@ -71,48 +57,48 @@ abbrev pub how_place : Outcome → ℕ
 how_place how = get_or (outcome_numbers how) 1 0
 
 -- `record::Checked`, a check
-abbrev pub checked_numbers : Checked → List ℕ
-checked_numbers Passed = no_refusal
-checked_numbers (Stopped r) = refusal_numbers r
+abbrev pub checked_numbers : Result Unit Refusal → List ℕ
+checked_numbers (Ok tt) = no_refusal
+checked_numbers (Err r) = refusal_numbers r
 
 -- `record::Known`, the kind that has a number: that number
-abbrev pub known_numbers : Known → List ℕ
-known_numbers (AKind k) = kind_number k ∷ []
-known_numbers Unknown = []
+abbrev pub known_numbers : Option Kind → List ℕ
+known_numbers (Some k) = kind_number k ∷ []
+known_numbers None = []
 
 -- `record::Chosen`, by the reading's number
-abbrev pub chosen_numbers : Chosen → List ℕ
-chosen_numbers (AReading rd) = reading_number rd ∷ []
-chosen_numbers NotChosen = []
+abbrev pub chosen_numbers : Option Reading → List ℕ
+chosen_numbers (Some rd) = reading_number rd ∷ []
+chosen_numbers None = []
 
 -- `escapes::Expanded`, an expansion: the slice that holds it (0 the text, 1 the buffer), its start and its end
 abbrev pub held_number : Held → ℕ
 held_number Text = 0
 held_number Buffer = 1
 
-abbrev pub expanded_numbers : Expanded → List ℕ
-expanded_numbers (APart p) = no_refusal ++ (held_number p.held ∷ p.start ∷ p.end ∷ [])
-expanded_numbers (NotExpanded r) = refusal_numbers r ++ (0 ∷ 0 ∷ 0 ∷ [])
+abbrev pub expanded_numbers : Result Part Refusal → List ℕ
+expanded_numbers (Ok p) = no_refusal ++ (held_number p.held ∷ p.start ∷ p.end ∷ [])
+expanded_numbers (Err r) = refusal_numbers r ++ (0 ∷ 0 ∷ 0 ∷ [])
 
 -- `place::Reported`, of the reporter: line and column
-abbrev pub reported_numbers : Reported → List ℕ
-reported_numbers (APlace p) = no_refusal ++ (p.line ∷ p.column ∷ [])
-reported_numbers (NotReported r) = refusal_numbers r ++ (0 ∷ 0 ∷ [])
+abbrev pub reported_numbers : Result Place Refusal → List ℕ
+reported_numbers (Ok p) = no_refusal ++ (p.line ∷ p.column ∷ [])
+reported_numbers (Err r) = refusal_numbers r ++ (0 ∷ 0 ∷ [])
 
 -- `place::Located`, of the way back: the place
-abbrev pub located_numbers : Located → List ℕ
-located_numbers (There p) = no_refusal ++ (p ∷ [])
-located_numbers (NotLocated r) = refusal_numbers r ++ (0 ∷ [])
+abbrev pub located_numbers : Result ℕ Refusal → List ℕ
+located_numbers (Ok p) = no_refusal ++ (p ∷ [])
+located_numbers (Err r) = refusal_numbers r ++ (0 ∷ [])
 
 -- `ltk::Answer`, of the LTK reader and writer: how many records were read, or bytes written
-abbrev pub answer_numbers : Answer → List ℕ
-answer_numbers (Done n) = no_refusal ++ (n ∷ [])
-answer_numbers (NotDone r) = refusal_numbers r ++ (0 ∷ [])
+abbrev pub answer_numbers : Result ℕ Refusal → List ℕ
+answer_numbers (Ok n) = no_refusal ++ (n ∷ [])
+answer_numbers (Err r) = refusal_numbers r ++ (0 ∷ [])
 
 -- `ltk::Found`, one record of a file
-abbrev pub found_numbers : Found → List ℕ
-found_numbers (Record t) = token_numbers t
-found_numbers Nothing = []
+abbrev pub found_numbers : Option Token → List ℕ
+found_numbers (Some t) = token_numbers t
+found_numbers None = []
 
 -- `sheet::Taken`, of a sheet that is handed a text: 1 where the text was taken, else 0; then the refusal, which is the text's error where that was tallied
 abbrev pub taken_numbers : Taken → List ℕ

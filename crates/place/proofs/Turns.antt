@@ -1,38 +1,25 @@
 -- The walk from character to character: what is left to count, over what is counted.
+use Rattle.std.specs.Prelude.{Ok}
 use Prim.Native.Nat.{ℕ, suc, ◌+◌, ◌-◌, ◌≤◌, ◌<◌}
 use mathlib.Core.Path.{◌≡◌, refl, sym, ap, ◌∙◌}
-use mathlib.Core.Bool.{Bool, true, false, cond, not, ◌&&◌, ◌||◌}
+use mathlib.Core.Bool.{Bool, true, false, cond, ◌&&◌, ◌||◌}
 use mathlib.Core.List.{List, [], ◌∷◌}
 use native.Mathlib.Omega.{arith}
 use borrow.Author.Tests.{le-ltb, lt-ltb, ltb-true, ne_eqb}
 use lib.Dec.{eqb, ltb}
-use lib.ListN.{length, get_or, drop, get_or-eq_default}
+use lib.ListN.{length, get_or, drop}
 use Rattle.utf8.specs.Chars.{'carriage_return, 'newline}
 use Rattle.utf8.specs.Laws.{Whole, both, ended, sight_past, valid_whole}
 use Rattle.utf8.specs.Picks.{picks, tests}
 use Rattle.utf8.specs.Utf8.{chars, verdict, width_of}
-use Rattle.utf8.specs.declared.Utf8.TheVariants.{Valid}
 use Rattle.place.specs.declared.Place.{Place}
 use Rattle.place.specs.Place.{before, bytes_to, ends, line_column, lines_ended, place_at, units, units_since}
 use Rattle.place.specs.Ends.{stands_by_lem}
 use Rattle.place.specs.Order.{before-first, before_in, before_on}
 use Rattle.place.specs.First.{Step, ends_at, first_units, first_width, step}
 
--- whether a line ends, by the tests of the code
+-- with no other byte does a line end
 module _ (s : List ℕ) (i : ℕ) where
-  pub ends_newline : get_or s i 0 ≡ 'newline → true ≡ ends_at s i
-  unfolding ends_at
-  ends_newline e = rw e refl
-
-  module _ (f : get_or s i 0 ≡ 'carriage_return) where
-    pub ends_return_lem : not (eqb (get_or s (i + 1) 0) 'newline) ≡ ends_at s i
-    unfolding ends_at
-    ends_return_lem = rw f refl
-
-    pub ends_lone : length s ≤ i + 1 → true ≡ ends_at s i
-    unfolding ends_at
-    ends_lone l = rw (f, get_or-eq_default s 0 l) refl
-
   pub ends_else : (get_or s i 0 ≡ 'newline → ⊥) → (get_or s i 0 ≡ 'carriage_return → ⊥) → false ≡ ends_at s i
   unfolding ends_at
   ends_else e f = rw (ne_eqb (get_or s i 0) 'newline e, ne_eqb (get_or s i 0) 'carriage_return f) refl
@@ -97,7 +84,7 @@ pub record Counted (s : List ℕ) (at i l u : ℕ) : Type 0 where
   pub column_few : u ≤ i
   pub left : from l u (at - i) (chars (drop i s)) ≡ line_column s at
 
-pub counted_start : (s : List ℕ) (at : ℕ) → verdict s ≡ Valid → Counted s at 0 0 0
+pub counted_start : (s : List ℕ) (at : ℕ) → verdict s ≡ Ok tt → Counted s at 0 0 0
 unfolding from line_column
 counted_start s at v =
     let z : at - 0 ≡ at = omega arith in
@@ -204,7 +191,7 @@ bytes-end : (s : List ℕ) (i n u : ℕ) → length s ≤ i → bytes_to n u (ch
 unfolding bytes_to
 bytes-end s i n u h = rw (none_left s i h)
 
-pub lined_start : (s : List ℕ) (line : ℕ) → verdict s ≡ Valid → Lined s line 0 line
+pub lined_start : (s : List ℕ) (line : ℕ) → verdict s ≡ Ok tt → Lined s line 0 line
 unfolding place_at
 lined_start s line v = record { within = omega arith; whole = valid_whole s v; left = λ u. omega arith }
 

@@ -1,5 +1,5 @@
 -- What the first byte of a character tells of it: all that the code looks at.
-use Rattle.std.specs.Prelude.{ℕ, ◌+◌, ◌/◌, ◌≤◌, ◌<◌, ◌≡◌, Bool, cond, ◌&&◌, ◌||◌, List, ◌∷◌, ◌++◌, ltb, length, get_or, drop}
+use Rattle.std.specs.Prelude.{ℕ, ◌+◌, ◌/◌, ◌≤◌, ◌<◌, ◌≡◌, Bool, cond, ◌&&◌, ◌||◌, List, ◌∷◌, ◌++◌, ltb, length, get_or, drop, Option, Some, None}
 use Rattle.std.proofs.Math.Path.{refl, ap}
 use Rattle.std.proofs.Common.{sym, subst, ◌∙◌, get_or-drop, eqb-true, ne_eqb}
 use Rattle.std.proofs.Math.Bool.{true, false, not}
@@ -7,8 +7,6 @@ use native.Mathlib.Omega.{arith}
 use Rattle.std.proofs.Math.Dec.{eqb}
 use Rattle.std.proofs.Math.ListN.{get_or-eq_default}
 use Rattle.utf8.specs.Chars.{'carriage_return, 'newline}
-use Rattle.utf8.specs.declared.Sight.{Sight}
-use Rattle.utf8.specs.declared.Sight.TheVariants.{Char, End}
 use Rattle.utf8.specs.Encode.{encode}
 use Rattle.utf8.proofs.Forms.{Form, form}
 use Rattle.utf8.proofs.Laws.{seen}
@@ -111,7 +109,7 @@ written-tells k r = go (ltb k 0x80) (ltb k 0x800) (ltb k 0x10000) refl refl refl
     go false false true e f g = rw (e, f, g) (tells_3 (0xE0 + k / 4096) k (omega tests) (omega tests) (omega tests) (omega tests) (omega tests) (omega tests))
     go false false false e f g = rw (e, f, g) (tells_4 (0xF0 + k / 262144) k (omega tests) (omega tests) (omega tests) (omega tests))
 
-pub first-tells : (s : List ℕ) (i k w : ℕ) → sight_at s i ≡ Char k w → Tells (get_or s i 0) k
+pub first-tells : (s : List ℕ) (i k w : ℕ) → sight_at s i ≡ Some (k, w) → Tells (get_or s i 0) k
 unfolding sight_at
 first-tells s i k w e =
     let f : Form (drop i s) k w = form (drop i s) k w e in
@@ -123,18 +121,18 @@ pub starts-told : (s : List ℕ) (j : ℕ) → starts_newline (chars (drop j s))
 unfolding starts_newline
 starts-told s j = go (sight_at s j) (eqb (get_or s j 0) 'newline) refl refl
   where
-    none : (t : Bool) → sight_at s j ≡ End → eqb (get_or s j 0) 'newline ≡ t → false ≡ t
+    none : (t : Bool) → sight_at s j ≡ None → eqb (get_or s j 0) 'newline ≡ t → false ≡ t
     none false e q = refl
     none true e q =
         let l : j < length s = within s j (omega tests) in
         let z : ◌≡◌ {A = ℕ} 0 1 = cc (e, sight_ascii s j l (omega tests)) in
         absurd (omega arith)
 
-    go : (x : Sight) (t : Bool) → sight_at s j ≡ x → eqb (get_or s j 0) 'newline ≡ t → starts_newline (chars (drop j s)) ≡ t
-    go End t e q = rw (ended s j e).none (none t e q)
-    go (Char k w) t e q = rw (seen s j k w e).next (sym ((first-tells s j k w e).same 'newline (omega arith)) ∙ q)
+    go : (x : Option (ℕ × ℕ)) (t : Bool) → sight_at s j ≡ x → eqb (get_or s j 0) 'newline ≡ t → starts_newline (chars (drop j s)) ≡ t
+    go None t e q = rw (ended s j e).none (none t e q)
+    go (Some (k, w)) t e q = rw (seen s j k w e).next (sym ((first-tells s j k w e).same 'newline (omega arith)) ∙ q)
 
-module _ (s : List ℕ) (i k w : ℕ) (e : sight_at s i ≡ Char k w) where
+module _ (s : List ℕ) (i k w : ℕ) (e : sight_at s i ≡ Some (k, w)) where
   ends-told : ends_at s i ≡ ends k (chars (drop (i + w) s))
   unfolding ends_at width_of
   ends-told =
@@ -164,9 +162,9 @@ pub record Step (s : List ℕ) (i : ℕ) : Type 0 where
 pub step : (s : List ℕ) (i : ℕ) → i < length s → Whole s i → Step s i
 step s i l o = go (sight_at s i) refl
   where
-    go : (x : Sight) → sight_at s i ≡ x → Step s i
-    go End e = absurd (omega (arith, reach-end s i (ended s i e), o))
-    go (Char k w) e =
+    go : (x : Option (ℕ × ℕ)) → sight_at s i ≡ x → Step s i
+    go None e = absurd (omega (arith, reach-end s i (ended s i e), o))
+    go (Some (k, w)) e =
         let h : Seen s i k w = seen s i k w e in
         let t : Tells (get_or s i 0) k = first-tells s i k w e in
         let f : w ≡ first_width (get_or s i 0) = h.width ∙ sym t.width in

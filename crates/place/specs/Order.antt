@@ -1,12 +1,10 @@
 -- Over characters: line and column never fall as more characters stand before the place, and both are small.
-use Rattle.std.specs.Prelude.{ℕ, zero, suc, ◌+◌, ◌-◌, ◌≤◌, ◌<◌, ◌≡◌, refl, Bool, true, false, cond, List, [], ◌∷◌, ltb, length}
+use Rattle.std.specs.Prelude.{ℕ, zero, suc, ◌+◌, ◌-◌, ◌≤◌, ◌<◌, ◌≡◌, refl, Bool, true, false, cond, List, [], ◌∷◌, ltb, length, Result, Ok, Err}
 use Rattle.std.proofs.Common.{sym, ap, arith, le-ltb, lt-ltb}
 use Rattle.utf8.proofs.Laws.{bad_place}
 use Rattle.utf8.specs.Laws.{valid_whole}
 use Rattle.utf8.specs.Picks.{by_test, tests}
 use Rattle.utf8.specs.Utf8.{chars, reach, verdict, width_of}
-use Rattle.utf8.specs.declared.Utf8.{Utf8}
-use Rattle.utf8.specs.declared.Utf8.TheVariants.{Bad, Valid}
 use Rattle.place.specs.Place.{before, ends, line_column, lines_ended, units, units_since}
 
 -- a character has one byte at least, and a byte for each of its units
@@ -107,9 +105,9 @@ units_few u (suc n) (c ∷ cs) at h =
 reach-most : (s : List ℕ) → reach (chars s) 0 ≤ length s
 reach-most s = go (verdict s) refl
   where
-    go : (v : Utf8) → verdict s ≡ v → reach (chars s) 0 ≤ length s
-    go Valid e = let h = valid_whole s e in omega arith
-    go (Bad p) e = omega (arith, bad_place s p e)
+    go : (v : Result Unit ℕ) → verdict s ≡ v → reach (chars s) 0 ≤ length s
+    go (Ok tt) e = let h = valid_whole s e in omega arith
+    go (Err p) e = omega (arith, bad_place s p e)
 
 pub place_small : (s : List ℕ) (p : ℕ) → ((line_column s p).line ≤ length s) × ((line_column s p).column ≤ length s)
 unfolding line_column

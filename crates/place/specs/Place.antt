@@ -1,16 +1,10 @@
 -- Lines and columns as editors count them, and places. Places here have no shift. Quoted: 02, E1.
-use Rattle.std.specs.Prelude.{ℕ, zero, suc, ◌+◌, ◌-◌, Bool, false, cond, ◌||◌, List, [], ◌∷◌, eqb, ltb}
+use Rattle.std.specs.Prelude.{ℕ, zero, suc, ◌+◌, ◌-◌, Bool, false, cond, ◌||◌, List, [], ◌∷◌, eqb, ltb, Result, Ok, Err}
 use Rattle.utf8.specs.Chars.{'carriage_return, 'newline}
 use Rattle.utf8.specs.Utf8.{chars, width_of}
 use Rattle.record.specs.Checks.{checks}
-use Rattle.record.specs.declared.Checked.{Checked}
-use Rattle.record.specs.declared.Checked.TheVariants.{Passed, Refused as Stopped}
 use Rattle.record.specs.declared.Refusal.{Refusal}
 use Rattle.place.specs.declared.Place.{Place}
-use Rattle.place.specs.declared.Reported.{Reported}
-use Rattle.place.specs.declared.Reported.TheVariants.{At, Refused}
-use Rattle.place.specs.declared.Located.{Located}
-use Rattle.place.specs.declared.Located.TheVariants.{At as There, Refused as Nowhere}
 
 -- "column in UTF-16 units": a character above FFFF takes two
 unfoldable pub units : ℕ → ℕ
@@ -57,12 +51,12 @@ unfoldable pub line_column : List ℕ → ℕ → Place
 line_column s p = record { line = lines_ended (before p (chars s)) (chars s); column = units_since 0 (before p (chars s)) (chars s) }
 
 -- "Refusals: 12, then 11 (shift 0)."
-unfoldable pub answered : {A : Type 0} → Checked → A → (Refusal → A) → A
-answered Passed x refused = x
-answered (Stopped r) x refused = refused r
+unfoldable pub answered : {A : Type 0} → Result Unit Refusal → A → (Refusal → A) → A
+answered (Ok tt) x refused = x
+answered (Err r) x refused = refused r
 
-unfoldable pub reported : List ℕ → ℕ → Reported
-reported s p = answered (checks s 0) (At (line_column s p)) Refused
+unfoldable pub reported : List ℕ → ℕ → Result Place Refusal
+reported s p = answered (checks s 0) (Ok (line_column s p)) Err
 
 -- And back, by the protocol: how many bytes stand before the place after n lines and u units more.
 unfoldable pub bytes_to : ℕ → ℕ → List ℕ → ℕ
@@ -75,5 +69,5 @@ bytes_to zero u (c ∷ cs) = cond (ltb 0 (line_end (c ∷ cs)) || ltb u (units c
 unfoldable pub place_at : List ℕ → ℕ → ℕ → ℕ
 place_at s line column = bytes_to line column (chars s)
 
-unfoldable pub located : List ℕ → ℕ → ℕ → Located
-located s line column = answered (checks s 0) (There (place_at s line column)) Nowhere
+unfoldable pub located : List ℕ → ℕ → ℕ → Result ℕ Refusal
+located s line column = answered (checks s 0) (Ok (place_at s line column)) Err

@@ -1,5 +1,5 @@
 -- The characters of a well_formed_lem text before a boundary, and those after it.
-use Rattle.std.specs.Prelude.{ℕ, zero, suc, ◌+◌, ◌-◌, ◌≤◌, ◌<◌, ◌≡◌, refl, Bool, false, eqb, ltb, length, drop}
+use Rattle.std.specs.Prelude.{ℕ, zero, suc, ◌+◌, ◌-◌, ◌≤◌, ◌<◌, ◌≡◌, refl, Bool, false, eqb, ltb, length, drop, Option, Some, None, Ok}
 use Rattle.std.proofs.Common.{sym, subst, ◌∙◌}
 use Rattle.std.proofs.Math.Path.{ap}
 use Rattle.std.proofs.Math.Bool.{true}
@@ -12,9 +12,6 @@ use Rattle.utf8.proofs.Laws.{boundary-whole, inside, seen}
 use Rattle.utf8.specs.Laws.{Seen, Whole, ended, reach-end, valid_whole, whole-step}
 use Rattle.utf8.specs.Picks.{tests}
 use Rattle.utf8.specs.Utf8.{boundary, chars, sight_at, verdict, width_of}
-use Rattle.utf8.specs.declared.Sight.{Sight}
-use Rattle.utf8.specs.declared.Sight.TheVariants.{Char, End}
-use Rattle.utf8.specs.declared.Utf8.TheVariants.{Valid}
 use Rattle.place.specs.Back.{ends_return, size}
 use Rattle.place.specs.Order.{reach_least}
 use Rattle.place.specs.First.{first-tells}
@@ -35,7 +32,7 @@ split_here s at p e =
       last = λ h. let z : ◌≡◌ {A = ℕ} 0 1 = cc in absurd (omega arith);
     }
 
-module _ (s : List ℕ) (at p k w : ℕ) (e : sight_at s at ≡ Char k w) where
+module _ (s : List ℕ) (at p k w : ℕ) (e : sight_at s at ≡ Some (k, w)) where
   split_last : (xs : List ℕ) → at + w + size xs ≡ p → (ends_return xs ≡ true → get_or s (p - 1) 0 ≡ 'carriage_return) → ends_return (k ∷ xs) ≡ true
       → get_or s (p - 1) 0 ≡ 'carriage_return
   unfolding size ends_return width_of
@@ -62,20 +59,20 @@ split_from zero s at p l r i b o = split_here s at p (omega arith)
 split_from (suc n) s at p l r i b o =
     go (ltb at p) (sight_at s at) refl refl (λ k w h q. split_from n s (at + w) p (omega (arith, h)) q i b (whole-step s at k w h o))
   where
-    short : (k w : ℕ) → sight_at s at ≡ Char k w → at < p → (t : Bool) → ltb p (at + w) ≡ t → at + w ≤ p
+    short : (k w : ℕ) → sight_at s at ≡ Some (k, w) → at < p → (t : Bool) → ltb p (at + w) ≡ t → at + w ≤ p
     short k w e h true q = let f : false ≡ true = sym (inside s at k w p e h (omega tests)) ∙ b in let z : ◌≡◌ {A = ℕ} 0 1 = cc in absurd (omega arith)
     short k w e h false q = omega tests
 
-    go : (t : Bool) (x : Sight) → ltb at p ≡ t → sight_at s at ≡ x → ((k w : ℕ) → Seen s at k w → at + w ≤ p → Split s (at + w) p) → Split s at p
+    go : (t : Bool) (x : Option (ℕ × ℕ)) → ltb at p ≡ t → sight_at s at ≡ x → ((k w : ℕ) → Seen s at k w → at + w ≤ p → Split s (at + w) p) → Split s at p
     go false x q e f = split_here s at p (omega tests)
-    go true End q e f = absurd (omega (tests, reach-end s at (ended s at e), o))
-    go true (Char k w) q e f = split_on s at p k w e (f k w (seen s at k w e) (short k w e (omega tests) (ltb p (at + w)) refl))
+    go true None q e f = absurd (omega (tests, reach-end s at (ended s at e), o))
+    go true (Some (k, w)) q e f = split_on s at p k w e (f k w (seen s at k w e) (short k w e (omega tests) (ltb p (at + w)) refl))
 
 -- a boundary lies in the text
-within : (s : List ℕ) (p : ℕ) → verdict s ≡ Valid → boundary s p ≡ true → p ≤ length s
+within : (s : List ℕ) (p : ℕ) → verdict s ≡ Ok tt → boundary s p ≡ true → p ≤ length s
 within s p v b = omega (arith, reach_least (chars (drop p s)) p, boundary-whole s p v b)
 
-pub split : (s : List ℕ) (p : ℕ) → verdict s ≡ Valid → boundary s p ≡ true → Split s 0 p
+pub split : (s : List ℕ) (p : ℕ) → verdict s ≡ Ok tt → boundary s p ≡ true → Split s 0 p
 split s p v b = split_from p s 0 p (omega arith) (omega arith) (within s p v b) b (valid_whole s v)
 
 -- ---- and the other way: where characters stand, their bytes end at a boundary
@@ -85,7 +82,7 @@ pub record Stands (s : List ℕ) (p : ℕ) (xs ys : List ℕ) : Type 0 where
   pub rest : chars (drop p s) ≡ ys
   pub last : get_or s (p - 1) 0 ≡ 'carriage_return → 0 < length xs → ends_return xs ≡ true
 
-module _ (s : List ℕ) (at k w : ℕ) (e : sight_at s at ≡ Char k w) where
+module _ (s : List ℕ) (at k w : ℕ) (e : sight_at s at ≡ Some (k, w)) where
   -- the last byte of a character is a CR only if the character is
   ends_byte : get_or s (at + w - 1) 0 ≡ 'carriage_return → eqb k 'carriage_return ≡ true
   ends_byte c = go (eqb w 1) refl
@@ -119,10 +116,10 @@ stands_from [] ys s at l o e =
     record { within_it = omega arith; whole = rw z o; rest = rw z e; last = λ c h. absurd (omega arith) }
 stands_from (x ∷ xs) ys s at l o e = go (sight_at s at) refl (λ w h q. stands_from xs ys s (at + w) (omega (arith, h)) (whole-step s at x w h o) q)
   where
-    go : (y : Sight) → sight_at s at ≡ y → ((w : ℕ) → Seen s at x w → chars (drop (at + w) s) ≡ xs ++ ys → Stands s (at + w + size xs) xs ys)
+    go : (y : Option (ℕ × ℕ)) → sight_at s at ≡ y → ((w : ℕ) → Seen s at x w → chars (drop (at + w) s) ≡ xs ++ ys → Stands s (at + w + size xs) xs ys)
         → Stands s (at + (width_of x + size xs)) (x ∷ xs) ys
-    go End q f = let z : [] ≡ x ∷ (xs ++ ys) = sym (ended s at q).none ∙ e in let w : ◌≡◌ {A = ℕ} 0 1 = cc in absurd (omega arith)
-    go (Char k w) q f =
+    go None q f = let z : [] ≡ x ∷ (xs ++ ys) = sym (ended s at q).none ∙ e in let w : ◌≡◌ {A = ℕ} 0 1 = cc in absurd (omega arith)
+    go (Some (k, w)) q f =
         let h : Seen s at k w = seen s at k w q in
         let n : k ∷ chars (drop (at + w) s) ≡ x ∷ (xs ++ ys) = sym h.next ∙ e in
         let i : k ≡ x = cc in
@@ -131,7 +128,7 @@ stands_from (x ∷ xs) ys s at l o e = go (sight_at s at) refl (λ w h q. stands
         let m : at + w + size xs ≡ at + (width_of x + size xs) = omega (arith, o) in
         rw (← m, ← i) (stands_on s at k w q xs ys (f w o j))
 
-pub stands : (s xs ys : List ℕ) → verdict s ≡ Valid → chars s ≡ xs ++ ys → Stands s (size xs) xs ys
+pub stands : (s xs ys : List ℕ) → verdict s ≡ Ok tt → chars s ≡ xs ++ ys → Stands s (size xs) xs ys
 stands s xs ys v e =
     let z : 0 + size xs ≡ size xs = omega arith in
     rw z at (stands_from xs ys s 0 (omega arith) (valid_whole s v) e)

@@ -1,5 +1,5 @@
 -- THE THEOREMS about the reporter and the way back, for every text.
-use Rattle.std.specs.Prelude.{ℕ, ◌+◌, ◌-◌, ◌≤◌, ◌<◌, Bool, cond, ◌&&◌, List, [], ◌∷◌, ◌++◌, ltb, drop}
+use Rattle.std.specs.Prelude.{ℕ, ◌+◌, ◌-◌, ◌≤◌, ◌<◌, Bool, cond, ◌&&◌, List, [], ◌∷◌, ◌++◌, ltb, drop, Some, Result, Ok, Err}
 use Rattle.std.proofs.Math.Path.{◌≡◌, refl, sym, ap}
 use Rattle.std.proofs.Common.{◌∙◌, arith}
 use Rattle.std.proofs.Math.Bool.{true, false}
@@ -11,19 +11,12 @@ use Rattle.utf8.proofs.Laws.{bounded, seen}
 use Rattle.utf8.specs.Laws.{Seen, valid_whole}
 use Rattle.utf8.specs.Picks.{tests}
 use Rattle.utf8.specs.Utf8.{boundary, chars, reach, sight_at, verdict}
-use Rattle.utf8.specs.declared.Sight.TheVariants.{Char}
-use Rattle.utf8.specs.declared.Utf8.{Utf8}
-use Rattle.utf8.specs.declared.Utf8.TheVariants.{Bad, Valid}
 use Rattle.record.specs.Allowed.{allowed}
 use Rattle.record.specs.Checks.{check_utf8, checks, shift_limit, text_limit}
 use Rattle.record.specs.Records.{refusal}
-use Rattle.record.specs.declared.Checked.{Checked}
-use Rattle.record.specs.declared.Checked.TheVariants.{Passed, Refused as Stopped}
 use Rattle.record.specs.declared.Code.TheVariants.{NotUtf8, ShiftTooLarge, TooLong}
 use Rattle.record.specs.declared.Refusal.{Refusal}
 use Rattle.place.specs.declared.Place.{Place}
-use Rattle.place.specs.declared.Reported.TheVariants.{At, Refused}
-use Rattle.place.specs.declared.Located.TheVariants.{At as There, Refused as Nowhere}
 use Rattle.place.specs.Back.{Lands, Unsplit, back, back_grows, before_past, before-whole, ends_return, lands, no-units, size}
 use Rattle.place.specs.First.{starts-told}
 use Rattle.place.specs.Order.{before_all, before_grows, before_in, lines_grow, units_grow}
@@ -47,52 +40,52 @@ pub record Proper (s : List ℕ) (p : ℕ) : Type 0 where
 -- ---- what an answer is
 -- an answer that is no refusal's: the checks passed, and it is the one asked for
 passed : {A : Type 0} (s : List ℕ) (x y : A) (refused : Refusal → A) → ((r : Refusal) → refused r ≡ y → ⊥) → answered (checks s 0) x refused ≡ y
-    → (checks s 0 ≡ Passed) × (x ≡ y)
+    → (checks s 0 ≡ Ok tt) × (x ≡ y)
 unfolding answered
 passed s x y refused none e = go (checks s 0) refl
   where
-    go : (c : Checked) → checks s 0 ≡ c → (checks s 0 ≡ Passed) × (x ≡ y)
-    go Passed d = (d, rw d at e)
-    go (Stopped r) d = absurd (none r (rw d at e))
+    go : (c : Result Unit Refusal) → checks s 0 ≡ c → (checks s 0 ≡ Ok tt) × (x ≡ y)
+    go (Ok tt) d = (d, rw d at e)
+    go (Err r) d = absurd (none r (rw d at e))
 
 module _ (s : List ℕ) where
-  pub told : (p : ℕ) (q : Place) → reported s p ≡ At q → (checks s 0 ≡ Passed) × (line_column s p ≡ q)
+  pub told : (p : ℕ) (q : Place) → reported s p ≡ Ok q → (checks s 0 ≡ Ok tt) × (line_column s p ≡ q)
   unfolding reported
   told p q e =
-      let h = passed s (At (line_column s p)) (At q) Refused (λ r z. let w : ◌≡◌ {A = ℕ} 0 1 = cc in absurd (omega arith)) e in
+      let h = passed s (Ok (line_column s p)) (Ok q) Err (λ r z. let w : ◌≡◌ {A = ℕ} 0 1 = cc in absurd (omega arith)) e in
       (h.0, cc h.1)
 
-  back-told : (line column p : ℕ) → located s line column ≡ There p → (checks s 0 ≡ Passed) × (place_at s line column ≡ p)
+  back-told : (line column p : ℕ) → located s line column ≡ Ok p → (checks s 0 ≡ Ok tt) × (place_at s line column ≡ p)
   unfolding located
   back-told line column p e =
-      let h = passed s (There (place_at s line column)) (There p) Nowhere (λ r z. let w : ◌≡◌ {A = ℕ} 0 1 = cc in absurd (omega arith)) e in
+      let h = passed s (Ok (place_at s line column)) (Ok p) Err (λ r z. let w : ◌≡◌ {A = ℕ} 0 1 = cc in absurd (omega arith)) e in
       (h.0, cc h.1)
 
   -- where line and column are the same, so is the answer
-  alike : (p q : ℕ) → (verdict s ≡ Valid → line_column s p ≡ line_column s q) → reported s p ≡ reported s q
+  alike : (p q : ℕ) → (verdict s ≡ Ok tt → line_column s p ≡ line_column s q) → reported s p ≡ reported s q
   unfolding answered reported
   alike p q f = go (checks s 0) refl
     where
-      go : (c : Checked) → checks s 0 ≡ c → answered c (At (line_column s p)) Refused ≡ answered c (At (line_column s q)) Refused
-      go Passed d = ap At (f (allowed s 0 d).valid)
-      go (Stopped r) d = refl
+      go : (c : Result Unit Refusal) → checks s 0 ≡ c → answered c (Ok (line_column s p)) Err ≡ answered c (Ok (line_column s q)) Err
+      go (Ok tt) d = ap Ok (f (allowed s 0 d).valid)
+      go (Err r) d = refl
 
 -- ---- 1. "Refusals: 12, then 11 (shift 0)", for both ways: 12 at 0, 11 at the first byte of the first ill-formed sequence, and no other
-abbrev pub well_formed : Utf8 → Checked
-well_formed Valid = Passed
-well_formed (Bad p) = Stopped (refusal NotUtf8 p)
+abbrev pub well_formed : Result Unit ℕ → Result Unit Refusal
+well_formed (Ok tt) = Ok tt
+well_formed (Err p) = Err (refusal NotUtf8 p)
 
-pub refusals : (s : List ℕ) → checks s 0 ≡ cond (ltb text_limit (length s)) (Stopped (refusal TooLong 0)) (well_formed (verdict s))
+pub refusals : (s : List ℕ) → checks s 0 ≡ cond (ltb text_limit (length s)) (Err (refusal TooLong 0)) (well_formed (verdict s))
 unfolding checks
 refusals s = go (ltb text_limit (length s)) refl
   where
-    text : (v : Utf8) → check_utf8 0 v ≡ well_formed v
-    text Valid = refl
-    text (Bad p) = ap (λ (k : ℕ). Stopped (refusal NotUtf8 k)) (omega arith)
+    text : (v : Result Unit ℕ) → check_utf8 0 v ≡ well_formed v
+    text (Ok tt) = refl
+    text (Err p) = ap (λ (k : ℕ). Err (refusal NotUtf8 k)) (omega arith)
 
     go : (t : Bool) → ltb text_limit (length s) ≡ t
-        → cond t (Stopped (refusal TooLong 0)) (cond (ltb shift_limit (0 + length s)) (Stopped (refusal ShiftTooLarge 0)) (check_utf8 0 (verdict s)))
-        ≡ cond t (Stopped (refusal TooLong 0)) (well_formed (verdict s))
+        → cond t (Err (refusal TooLong 0)) (cond (ltb shift_limit (0 + length s)) (Err (refusal ShiftTooLarge 0)) (check_utf8 0 (verdict s)))
+        ≡ cond t (Err (refusal TooLong 0)) (well_formed (verdict s))
     go true e = refl
     go false e = rw (le-ltb shift_limit (0 + length s) (omega tests)) (text (verdict s))
 
@@ -103,11 +96,11 @@ grows s p q h =
     let b : before p (chars s) ≤ before q (chars s) = before_grows p q (chars s) h in
     record { lines = lines_grow _ _ (chars s) b; columns = λ e. units_grow 0 _ _ (chars s) b e }
 
-pub never_falls : (s : List ℕ) (p q : ℕ) (a b : Place) → reported s p ≡ At a → reported s q ≡ At b → p ≤ q → NotAfter a b
+pub never_falls : (s : List ℕ) (p q : ℕ) (a b : Place) → reported s p ≡ Ok a → reported s q ≡ Ok b → p ≤ q → NotAfter a b
 never_falls s p q a b d e h = rw ((told s p a d).1, (told s q b e).1) at (grows s p q h)
 
 -- ---- 3. "A place inside a character answers as its first byte", and one beyond the text as its end.
-inside-alike : (s : List ℕ) (p q k w : ℕ) → verdict s ≡ Valid → boundary s p ≡ true → sight_at s p ≡ Char k w → p ≤ q → q < p + w
+inside-alike : (s : List ℕ) (p q k w : ℕ) → verdict s ≡ Ok tt → boundary s p ≡ true → sight_at s p ≡ Some (k, w) → p ≤ q → q < p + w
     → before q (chars s) ≡ before p (chars s)
 inside-alike s p q k w v b e h g =
     let o : Split s 0 p = split s p v b in
@@ -121,7 +114,7 @@ inside-alike s p q k w v b e h g =
     let y : before p (chars s) ≡ length o.front = cc (c, z, before-whole o.front r) in
     omega arith
 
-pub inside : (s : List ℕ) (p q k w : ℕ) → boundary s p ≡ true → sight_at s p ≡ Char k w → p ≤ q → q < p + w → reported s q ≡ reported s p
+pub inside : (s : List ℕ) (p q k w : ℕ) → boundary s p ≡ true → sight_at s p ≡ Some (k, w) → p ≤ q → q < p + w → reported s q ≡ reported s p
 unfolding line_column
 inside s p q k w b e h g = alike s q p (λ v. rw (inside-alike s p q k w v b e h g))
 
@@ -141,7 +134,7 @@ not_split s p o a r n =
     let w : ◌≡◌ {A = ℕ} 0 1 = cc in
     absurd (omega arith)
 
-again : (s : List ℕ) (p : ℕ) → verdict s ≡ Valid → Proper s p → place_at s (line_column s p).line (line_column s p).column ≡ p
+again : (s : List ℕ) (p : ℕ) → verdict s ≡ Ok tt → Proper s p → place_at s (line_column s p).line (line_column s p).column ≡ p
 unfolding line_column place_at
 again s p v h =
     let o : Split s 0 p = split s p v h.on in
@@ -151,16 +144,16 @@ again s p v h =
     let n : before p (chars s) ≡ length o.front = cc (c, e, before-whole o.front ys) in
     cc (c, n, back o.front ys (not_split s p o h.apart), e)
 
-pub there_and_back : (s : List ℕ) (p : ℕ) (q : Place) → reported s p ≡ At q → Proper s p → located s q.line q.column ≡ There p
+pub there_and_back : (s : List ℕ) (p : ℕ) (q : Place) → reported s p ≡ Ok q → Proper s p → located s q.line q.column ≡ Ok p
 unfolding answered located
 there_and_back s p q e h =
     let t = told s p q e in
-    rw t.0 (ap There (rw t.1 at (again s p (allowed s 0 t.0).valid h)))
+    rw t.0 (ap Ok (rw t.1 at (again s p (allowed s 0 t.0).valid h)))
 
 -- so two such places with the same answer are equal
-pub same_place : (s : List ℕ) (p r : ℕ) (q : Place) → reported s p ≡ At q → reported s r ≡ At q → Proper s p → Proper s r → p ≡ r
+pub same_place : (s : List ℕ) (p r : ℕ) (q : Place) → reported s p ≡ Ok q → reported s r ≡ Ok q → Proper s p → Proper s r → p ≡ r
 same_place s p r q d e g h =
-    let z : There p ≡ There r = sym (there_and_back s p q d g) ∙ there_and_back s r q e h in
+    let z : Ok p ≡ Ok r = sym (there_and_back s p q d g) ∙ there_and_back s r q e h in
     cc
 
 -- something stands before a place between CR and LF
@@ -170,8 +163,8 @@ some s p [] e c d = let z : ◌≡◌ {A = ℕ} 13 10 = cc (c, d, e) in absurd (
 some s p (x ∷ xs) e c d = omega arith
 
 -- ---- 5. The way back answers the last such place that is not after the line and the column asked for.
-module _ (s : List ℕ) (line column p : ℕ) (e : located s line column ≡ There p) where
-  valid : verdict s ≡ Valid
+module _ (s : List ℕ) (line column p : ℕ) (e : located s line column ≡ Ok p) where
+  valid : verdict s ≡ Ok tt
   valid = (allowed s 0 (back-told s line column p e).0).valid
 
   here : Lands line column 0 (chars s)
@@ -200,7 +193,7 @@ module _ (s : List ℕ) (line column p : ℕ) (e : located s line column ≡ The
           absurd (here.not_split m n)
 
   -- it is not after what was asked for,
-  pub back-not-after : (q : Place) → reported s p ≡ At q → NotAfter q (record { line = line; column = column })
+  pub back-not-after : (q : Place) → reported s p ≡ Ok q → NotAfter q (record { line = line; column = column })
   unfolding line_column
   back-not-after q d =
       let n : before p (chars s) ≡ length here.front = cc (here.joined, there, before-whole here.front here.rest) in
@@ -213,7 +206,7 @@ module _ (s : List ℕ) (line column p : ℕ) (e : located s line column ≡ The
       }
 
   -- and no later such place is not after it
-  pub back_last : (r : ℕ) (q : Place) → reported s r ≡ At q → Proper s r → NotAfter q (record { line = line; column = column }) → r ≤ p
+  pub back_last : (r : ℕ) (q : Place) → reported s r ≡ Ok q → Proper s r → NotAfter q (record { line = line; column = column }) → r ≤ p
   unfolding place_at
   back_last r q d h n =
       let a : place_at s q.line q.column ≡ r = (back-told s q.line q.column r (there_and_back s r q d h)).1 in

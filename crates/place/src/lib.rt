@@ -4,12 +4,10 @@
 ghost use Rattle.std.specs.Prelude.{◌≡◌, ◌&&◌, ltb, ℕ, ◌+◌, ◌≤◌, ◌<◌, length, drop};
 ghost use Rattle.utf8.specs.Laws.{Whole};
 ghost use Rattle.utf8.specs.Utf8.{chars, verdict};
-ghost use Rattle.utf8.specs.declared.Utf8.TheVariants.{Valid};
 ghost use Rattle.place.specs.Place.{bytes_to, line_column, located, place_at, reported};
 ghost use Rattle.place.specs.First.{ends_at, first_units, first_width};
 
-use record::{Checked, Refusal};
-use utf8::Utf8;
+use record::Refusal;
 
 // A line and a column, both counted from 0; the column in UTF-16 units.
 #[derive(Clone, Copy)]
@@ -18,44 +16,25 @@ pub struct Place {
     pub column: u64,
 }
 
-// What the reporter answers.
-#[derive(Clone, Copy)]
-pub enum Reported {
-    At(Place),
-    Refused(Refusal),
-}
-
-// The way back.
-#[derive(Clone, Copy)]
-pub enum Located {
-    At(u64),
-    Refused(Refusal),
-}
-
 // The bytes of a character, by its first byte.
+#[tactic(auto, unfolding(crate::specs::First::first_width))]
 fn width(a: u8) -> usize
     ensures { result ≡ first_width a }
 {
-    if a < 128 {
-        return 1;
+    match a {
+        0..=127 => 1,
+        128..=223 => 2,
+        224..=239 => 3,
+        _ => 4,
     }
-    if a < 224 {
-        return 2;
-    }
-    if a < 240 {
-        return 3;
-    }
-    4
 }
 
 // Its units, by the same byte.
+#[tactic(auto, unfolding(crate::specs::First::first_units))]
 fn units(a: u8) -> u64
     ensures { result ≡ first_units a }
 {
-    if a < 240 {
-        return 1;
-    }
-    2
+    if a < 240 { 1 } else { 2 }
 }
 
 // Whether a byte is a character of one unit with which no line ends: of most texts most bytes are.
@@ -66,37 +45,29 @@ fn is_plain(a: u8) -> bool
 }
 
 // Whether a line ends with the character at a place.
+#[tactic(auto, unfolding(crate::specs::First::ends_at))]
 fn ends(text: &[u8], i: usize) -> bool
     requires { i < length text.now }
     ensures { result ≡ ends_at text.now i }
 {
-    let a = text[i];
-    if a == b'\n' {
-        return true;
+    match text[i] {
+        b'\n' => true,
+        b'\r' => text.get(i + 1) != Some(&b'\n'),
+        _ => false,
     }
-    if a == b'\r' {
-        if text.len() - i < 2 {
-            return true;
-        }
-        return text[i + 1] != b'\n';
-    }
-    false
 }
 
 // How far a walk can go: to the place, or to the text's end.
 fn bound(text: &[u8], at: u64) -> usize
     ensures { (result ≤ length text.now) × (result ≤ at) × (result < at → length text.now ≤ result) }
 {
-    if at < text.len() as u64 {
-        return at as usize;
-    }
-    text.len()
+    at.min(text.len() as u64) as usize
 }
 
 // The line and the column of a place in a well-formed text. The commonest characters come first: one byte, one unit, no line's end; then the others of one
-// byte; then those of more, with which no line ends.
+// byte; then those of more, with which no line ends. The step is a character's width, which no iterator over bytes gives; one over a str asks for a check of its own.
 fn walk(text: &[u8], at: u64) -> Place
-    requires { verdict text.now ≡ Valid }
+    requires { verdict text.now ≡ Ok tt }
     ensures { result ≡ line_column text.now at }
 {
     let end = bound(text, at);
@@ -132,13 +103,11 @@ fn walk(text: &[u8], at: u64) -> Place
 }
 
 // The reporter: a place inside a character is answered as its first byte, one beyond the text as its end.
-pub fn line_column(text: &[u8], at: u64) -> Reported
+pub fn line_column(text: &[u8], at: u64) -> Result<Place, Refusal>
     ensures { result ≡ reported text.now at }
 {
-    match record::checks(text, 0) {
-        Checked::Passed => Reported::At(walk(text, at)),
-        Checked::Refused(r) => Reported::Refused(r),
-    }
+    record::checks(text, 0)?;
+    Ok(walk(text, at))
 }
 
 // The same for any text: where it is ill-formed, its well-formed beginning is asked.
@@ -146,14 +115,14 @@ pub fn in_beginning(text: &[u8], at: u64) -> Place
     ensures { result ≡ line_column text.now at }
 {
     match utf8::check(text) {
-        Utf8::Valid => walk(text, at),
-        Utf8::Bad(end) => walk(&text[..end], at),
+        Ok(()) => walk(text, at),
+        Err(end) => walk(&text[..end], at),
     }
 }
 
-// Where a line of a well-formed text starts; its end where it has not so many.
+// Where a line of a well-formed text starts; its end where it has not so many. Stepped as in `walk`.
 fn line_start(text: &[u8], line: u64) -> usize
-    requires { verdict text.now ≡ Valid }
+    requires { verdict text.now ≡ Ok tt }
     ensures { (result ≤ length text.now)
         × (Whole text.now result)
         × ((u : ℕ) → place_at text.now line u ≡ result + bytes_to 0 u (chars (drop result text.now))) }
@@ -178,7 +147,7 @@ fn line_start(text: &[u8], line: u64) -> usize
     i
 }
 
-// The place so many units further on a line; the line's end where it has fewer.
+// The place so many units further on a line; the line's end where it has fewer. Stepped as in `walk`.
 fn along(text: &[u8], start: usize, column: u64) -> usize
     requires { (start ≤ length text.now) × (Whole text.now start) }
     ensures { result ≡ start + bytes_to 0 column (chars (drop start text.now)) }
@@ -204,11 +173,9 @@ fn along(text: &[u8], start: usize, column: u64) -> usize
 }
 
 // The place of a line and a column.
-pub fn place_at(text: &[u8], line: u64, column: u64) -> Located
+pub fn place_at(text: &[u8], line: u64, column: u64) -> Result<u64, Refusal>
     ensures { result ≡ located text.now line column }
 {
-    match record::checks(text, 0) {
-        Checked::Passed => Located::At(along(text, line_start(text, line), column) as u64),
-        Checked::Refused(r) => Located::Refused(r),
-    }
+    record::checks(text, 0)?;
+    Ok(along(text, line_start(text, line), column) as u64)
 }

@@ -1,10 +1,9 @@
 // The line and the column of every place of small texts, and back. The file `stdout` holds what 02, E1 says of them.
 #![tactic(auto)]
 
-mod say;
-
-use crate::say::{number, refusal, say};
-use place::{Located, Place, Reported};
+use place::Place;
+use record::Refusal;
+use shown::{number, refusal, say};
 
 fn line_and_column(rt: &impl Print, line: u64, column: u64) {
     say(rt, b"line ");
@@ -14,14 +13,14 @@ fn line_and_column(rt: &impl Print, line: u64, column: u64) {
 }
 
 // The place of a line and a column, after a word for it.
-fn located(rt: &impl Print, word: &[u8], l: Located) {
+fn located(rt: &impl Print, word: &[u8], l: Result<u64, Refusal>) {
     match l {
-        Located::At(at) => {
+        Ok(at) => {
             say(rt, word);
             number(rt, at);
             say(rt, b"\n");
         }
-        Located::Refused(r) => refusal(rt, r),
+        Err(r) => refusal(rt, r),
     }
 }
 
@@ -35,8 +34,8 @@ fn there(rt: &impl Print, text: &[u8], at: u64) {
     number(rt, at);
     say(rt, b" ");
     match place::line_column(text, at) {
-        Reported::At(p) => answer(rt, text, p),
-        Reported::Refused(r) => refusal(rt, r),
+        Ok(p) => answer(rt, text, p),
+        Err(r) => refusal(rt, r),
     }
 }
 
@@ -87,21 +86,18 @@ fn no_text(rt: &impl Print) {
 
 // A column beyond a line that each end ends, a line beyond the last.
 fn beyond(rt: &impl Print, text: &[u8]) {
-    back(rt, text, 0, 99);
-    back(rt, text, 1, 99);
-    back(rt, text, 2, 99);
-    back(rt, text, 3, 99);
+    for line in 0..4 {
+        back(rt, text, line, 99);
+    }
     back(rt, text, 4, 0);
     back(rt, text, 18446744073709551615, 18446744073709551615);
 }
 
 // Before, inside and after a pair.
 fn around(rt: &impl Print, text: &[u8]) {
-    back(rt, text, 0, 1);
-    back(rt, text, 0, 2);
-    back(rt, text, 0, 3);
-    back(rt, text, 0, 4);
-    back(rt, text, 0, 5);
+    for column in 1..6 {
+        back(rt, text, 0, column);
+    }
 }
 
 fn main(rt: HostRuntime) {

@@ -1,7 +1,8 @@
 -- The lines of Unicode's files: `XXXX ; Property # comment`, or `XXXX..YYYY ; Property # comment`; and lines that are empty or start with `#`.
-use Rattle.std.specs.Prelude.{ℕ, suc, ◌+◌, Bool, true, false, cond, not, List, [], ◌∷◌, eqb, ltb, length, take, drop}
+use Rattle.std.specs.Prelude.{ℕ, suc, ◌+◌, Option, Some, None, Bool, true, false, cond, not, List, [], ◌∷◌, eqb, ltb, length, take, drop}
 use Rattle.utf8.specs.Chars.{'newline, '#, 'semi}
 use Rattle.property.specs.declared.line.Hex.{Hex}
+use Rattle.property.specs.declared.line.Property.{Property}
 use Rattle.property.specs.declared.line.Property.TheVariants.{Start, Continue, White}
 use Rattle.property.specs.declared.line.Line.{Line}
 use Rattle.property.specs.declared.line.Line.TheVariants.{Nothing, Range, Damaged}
@@ -30,6 +31,11 @@ unfoldable pub starts_with : List ℕ → List ℕ → Bool
 starts_with [] s = true
 starts_with (a ∷ word) [] = false
 starts_with (a ∷ word) (b ∷ s) = elim (eqb b a) [ true ↦ starts_with word s | false ↦ false ]
+
+-- the line of code points whose property is told; where none is, damage
+abbrev pub ranged : ℕ → ℕ → Option Property → Line
+ranged first last (Some p) = Range first last p
+ranged first last None = Damaged
 
 -- the name of a property, with the space that ends it. Any other name is damage
 unfoldable pub known_of : List ℕ → ℕ → ℕ → Line

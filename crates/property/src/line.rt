@@ -1,9 +1,9 @@
 // A line of Unicode's files: `XXXX ; Property # comment`, or `XXXX..YYYY ; Property # comment`.
-ghost use Rattle.std.specs.Prelude.{◌≡◌, ◌+◌, drop};
+ghost use Rattle.std.specs.Prelude.{◌≡◌, ◌<◌, ◌≤◌, ℕ, length, MatchOption};
 ghost use Rattle.property.specs.Hex.{digit_of, hex_of};
-ghost use Rattle.property.specs.Lines.{passes, front, starts_with, known_of, named_of, last_of, range_of, line_of, line_at};
+ghost use Rattle.property.specs.Lines.{passes, front, past_spaces, ranged, known_of, named_of, last_of, range_of, first_of, line_of, line_at};
 
-#[derive(Clone, Copy)]
+#[derive(Clone, Copy, PartialEq, Eq)]
 pub enum Property {
     Start,
     Continue,
@@ -36,184 +36,149 @@ struct Hex {
     digits: usize,
 }
 
-fn wide(b: u8) -> u32
-    ensures { result ≡ b }
+// A hexadecimal digit's value as Unicode writes it.
+fn digit(b: u8) -> Option<u32>
+    ensures { MatchOption result (digit_of b ≡ 16) (λ d. (d ≡ digit_of b) × (d < 16)) }
 {
-    b as u32
+    match b {
+        b'0'..=b'9' => Some(u32::from(b - b'0')),
+        b'A'..=b'F' => Some(u32::from(b - b'A') + 10),
+        _ => None,
+    }
 }
 
-// A hexadecimal digit's value as Unicode writes it, and 16 for every other byte.
-fn digit(b: u8) -> u32
-    ensures { result ≡ digit_of b }
-{
-    if b < b'0' {
-        return 16;
-    }
-    if b <= b'9' {
-        return wide(b) - wide(b'0');
-    }
-    if b < b'A' {
-        return 16;
-    }
-    if b <= b'F' {
-        return wide(b) - wide(b'A') + 10;
-    }
-    16
-}
-
-// The number whose digits stand from a place on. Past 10FFFF no digit is taken.
-fn hex_at(s: &[u8], from: usize) -> Hex
-    ensures { result ≡ hex_of (drop from s.now) }
+// The digits at the front of a text. Past 10FFFF none is taken.
+fn digits(s: &[u8]) -> Hex
+    ensures { result ≡ hex_of s.now }
 {
     let mut value: u32 = 0;
     let mut digits: usize = 0;
-    let mut at = from;
-    while at < s.len() {
-        let d = digit(s[at]);
-        if 16 <= d {
-            return Hex {
-                value: value,
-                digits: digits,
-            };
-        }
+    for b in s {
+        let Some(d) = digit(*b) else {
+            break;
+        };
         if 0x10FFFF < value {
-            return Hex {
-                value: value,
-                digits: digits,
-            };
+            break;
         }
         value = value * 16 + d;
         digits += 1;
-        at += 1;
     }
-    Hex {
-        value: value,
-        digits: digits,
-    }
+    Hex { value, digits }
 }
 
-// Whether the byte a is b; or, if not `same`, is not.
+// The number at the front of a text, where there is one.
+fn number(s: &[u8]) -> Option<Hex>
+    ensures { MatchOption result ((hex_of s.now).digits ≡ 0) (λ h. (h ≡ hex_of s.now) × (0 < h.digits) × (h.digits ≤ length s.now)) }
+{
+    let h = digits(s);
+    if h.digits == 0 {
+        return None;
+    }
+    Some(h)
+}
+
+// Whether the byte a is b; or, if not `same`, is not: `passes` and `front` of specs/Lines take `same`.
 fn is_passed(a: u8, b: u8, same: bool) -> bool
     ensures { result ≡ passes a b same }
 {
-    if same {
-        return a == b;
-    }
-    a != b
+    (a == b) == same
 }
 
-// The place after the bytes from a place on that are b; or, if not `same`, that are not.
-fn pass_over(s: &[u8], from: usize, b: u8, same: bool) -> usize
-    ensures { result ≡ from + front b same (drop from s.now) }
+// How many bytes at the front of a text are b; or, if not `same`, are not.
+fn front(s: &[u8], b: u8, same: bool) -> usize
+    ensures { result ≡ front b same s.now }
 {
-    let mut at = from;
-    while at < s.len() {
-        if !is_passed(s[at], b, same) {
-            return at;
+    for (i, a) in s.iter().enumerate() {
+        if !is_passed(*a, b, same) {
+            return i;
         }
-        at += 1;
     }
-    at
+    s.len()
 }
 
-// Whether a word stands at a place.
-fn stands<'a>(s: &'a [u8], from: usize, word: &'a [u8]) -> bool
-    ensures { result ≡ starts_with word.now (drop from s.now) }
+// A text after the spaces at its front.
+fn past_spaces(s: &[u8]) -> &[u8]
+    ensures { result.now ≡ past_spaces s.now }
 {
-    let mut at = from;
-    let mut i: usize = 0;
-    while i < word.len() {
-        if s.len() <= at {
-            return false;
-        }
-        if s[at] != word[i] {
-            return false;
-        }
-        at += 1;
-        i += 1;
-    }
-    true
+    &s[front(s, b' ', true)..]
 }
 
-// The name of a property, with the space that ends it.
-fn known(s: &[u8], at: usize, first: u32, last: u32) -> Line
-    ensures { result ≡ known_of (drop at s.now) first last }
+// The property whose name stands at the front, with the space that ends it.
+fn known(s: &[u8]) -> Option<Property>
+    ensures { (first last : ℕ) → ranged first last result ≡ known_of s.now first last }
 {
-    if stands(s, at, b"XID_Start ") {
-        return Line::Range {
-            first: first,
-            last: last,
-            property: Property::Start,
-        };
+    if s.starts_with(b"XID_Start ") {
+        return Some(Property::Start);
     }
-    if stands(s, at, b"XID_Continue ") {
-        return Line::Range {
-            first: first,
-            last: last,
-            property: Property::Continue,
-        };
+    if s.starts_with(b"XID_Continue ") {
+        return Some(Property::Continue);
     }
-    if stands(s, at, b"White_Space ") {
-        return Line::Range {
-            first: first,
-            last: last,
-            property: Property::White,
-        };
+    if s.starts_with(b"White_Space ") {
+        return Some(Property::White);
     }
-    Line::Damaged
+    None
 }
 
 // What stands after the code points: spaces, `;`, spaces, and a name.
-fn named(s: &[u8], at: usize, first: u32, last: u32) -> Line
-    ensures { result ≡ named_of (drop at s.now) first last }
+fn named(s: &[u8]) -> Option<Property>
+    ensures { (first last : ℕ) → ranged first last result ≡ named_of s.now first last }
 {
-    let semi = pass_over(s, at, b' ', true);
-    if s.len() <= semi {
-        return Line::Damaged;
+    let name = past_spaces(s).strip_prefix(b";")?;
+    known(past_spaces(name))
+}
+
+// The line of code points, after which s stands.
+fn with_name(s: &[u8], first: u32, last: u32) -> Line
+    ensures { result ≡ named_of s.now first last }
+{
+    match named(s) {
+        Some(property) => Line::Range {
+            first,
+            last,
+            property,
+        },
+        None => Line::Damaged,
     }
-    if s[semi] != b';' {
-        return Line::Damaged;
-    }
-    let name = pass_over(s, semi + 1, b' ', true);
-    known(s, name, first, last)
 }
 
 // The last code point, and what stands after it.
-fn with_last(s: &[u8], at: usize, first: u32) -> Line
-    ensures { result ≡ last_of first (hex_of (drop at s.now)) (drop at s.now) }
+fn with_last(s: &[u8], first: u32) -> Line
+    ensures { result ≡ last_of first (hex_of s.now) s.now }
 {
-    let h = hex_at(s, at);
-    if h.digits == 0 {
-        return Line::Damaged;
+    match number(s) {
+        Some(h) => with_name(&s[h.digits..], first, h.value),
+        None => Line::Damaged,
     }
-    named(s, at + h.digits, first, h.value)
 }
 
 // What stands after the first code point.
-fn range(s: &[u8], at: usize, first: u32) -> Line
-    ensures { result ≡ range_of first (drop at s.now) }
+fn range(s: &[u8], first: u32) -> Line
+    ensures { result ≡ range_of first s.now }
 {
-    if stands(s, at, b"..") {
-        return with_last(s, at + 2, first);
+    match s.strip_prefix(b"..") {
+        Some(t) => with_last(t, first),
+        None => with_name(s, first, first),
     }
-    named(s, at, first, first)
+}
+
+// The first code point, and what stands after it.
+fn with_first(s: &[u8]) -> Line
+    ensures { result ≡ first_of (hex_of s.now) s.now }
+{
+    match number(s) {
+        Some(h) => range(&s[h.digits..], h.value),
+        None => Line::Damaged,
+    }
 }
 
 // What a line says.
 fn parse(s: &[u8]) -> Line
     ensures { result ≡ line_of s.now }
 {
-    if s.len() == 0 {
-        return Line::Nothing;
+    match s {
+        [] | [b'#', ..] => Line::Nothing,
+        _ => with_first(s),
     }
-    if s[0] == b'#' {
-        return Line::Nothing;
-    }
-    let h = hex_at(s, 0);
-    if h.digits == 0 {
-        return Line::Damaged;
-    }
-    range(s, h.digits, h.value)
 }
 
 // The line that starts at a place. Past the end there is none.
@@ -226,10 +191,9 @@ pub fn line_at(s: &[u8], at: usize) -> Read
             next: at,
         };
     }
-    let end = pass_over(s, at, b'\n', false);
-    let line = parse(&s[at..end]);
+    let end = at + front(&s[at..], b'\n', false);
     Read {
-        line: line,
+        line: parse(&s[at..end]),
         next: end + 1,
     }
 }

@@ -1,6 +1,6 @@
 -- The law of a call: its gap, its token, the dropped character and its advances.
 use Prim.Native.Nat.{◌+◌, ◌<◌, suc, ℕ}
-use Rattle.std.proofs.Common.{arith, ◌∙◌}
+use Rattle.std.proofs.Common.{arith, ◌∙◌, Ok, Err}
 use Rattle.std.specs.Prelude.{Bool, cond, ◌≡◌, drop, length}
 use Rattle.std.proofs.Math.Bool.{false, true}
 use mathlib.Core.List.{List, [], ◌∷◌}
@@ -11,8 +11,7 @@ use Rattle.record.specs.declared.Token.{Token}
 use Rattle.record.specs.declared.Reading.{Reading}
 use Rattle.scan.specs.Far.{Far, far_none, far_one, one_far, then}
 use Rattle.scan.specs.Passes.{Sound}
-use Rattle.scan.specs.declared.Skip.{Skip}
-use Rattle.scan.specs.declared.Skip.TheVariants.{Lost, Past}
+use Rattle.scan.specs.Shapes.{Skip}
 use Rattle.reading.specs.Answers.{deliver, more, plain, told, told_what}
 use Rattle.reading.specs.Attribute.{attempt, attribute_token, hash, hash_by}
 use Rattle.reading.proofs.Calls.{plain-taken}
@@ -22,8 +21,7 @@ use Rattle.reading.specs.Measures.{is_hash, tail_of, wasted}
 use Rattle.reading.specs.Next.{next, next_by, starts, token, token_or_end}
 use Rattle.reading.specs.Passes.{gap_sound}
 use Rattle.reading.specs.Symbols.{single, singles}
-use Rattle.reading.specs.declared.Attempt.{Attempt}
-use Rattle.reading.specs.declared.Attempt.TheVariants.{Closed, Failed}
+use Rattle.reading.specs.Shapes.{Attempt}
 use Rattle.reading.specs.declared.Call.{Call}
 use Rattle.reading.specs.declared.What.{What}
 use Rattle.reading.specs.declared.What.TheVariants.{End, Error, Got}
@@ -70,7 +68,7 @@ module _ (rd : Reading) where
   hash-stands c cs o q = go (attempt cs (o + width_of c)) refl (attempt_tried cs (o + width_of c))
     where
       go : (x : Attempt) → attempt cs (o + width_of c) ≡ x → Tried cs (o + width_of c) (attempt cs (o + width_of c)) → Stands (c ∷ cs) o (more 1 (hash_by rd o cs (o + width_of c) x))
-      go (Closed p m) e h =
+      go (Ok (p, m)) e h =
           let f : Far cs (o + width_of c) m p = (rw e at h).is in
           record {
             is = record {
@@ -82,7 +80,7 @@ module _ (rd : Reading) where
               spent = omega arith;
             };
           }
-      go (Failed p m) e h = record {
+      go (Err (p, m)) e h = record {
         is = record {
           start = refl;
           width = 1;
@@ -109,7 +107,7 @@ module _ (rd : Reading) where
   -- THE LAW OF A CALL. From the place at: a gap, then the token, then what is dropped, and the advances
   pub record Placed (cs : List ℕ) (at : ℕ) (t : Token) (p n : ℕ) : Type 0 where
     pub gapped : ℕ
-    pub gap_is : gap cs at ≡ Past t.start gapped
+    pub gap_is : gap cs at ≡ Ok (t.start, gapped)
     pub gap_far : Far cs at gapped t.start
     pub width : ℕ
     pub some : 0 < width
@@ -120,12 +118,12 @@ module _ (rd : Reading) where
   abbrev pub LaidIn : List ℕ → ℕ → ℕ → ℕ → What → Type 0
   LaidIn cs at p n (Got t) = Placed cs at t p n
   LaidIn cs at p n (Error r) = Far cs at n p
-  LaidIn cs at p n End = (gap cs at ≡ Past p n) × (n ≡ length cs)
+  LaidIn cs at p n End = (gap cs at ≡ Ok (p, n)) × (n ≡ length cs)
 
   pub record Laid (cs : List ℕ) (at : ℕ) (x : Call) : Type 0 where
     pub is : LaidIn cs at x.at x.advances x.what
 
-  lay : (cs : List ℕ) (at o m : ℕ) → gap cs at ≡ Past o m → Far cs at m o → (p n g d : ℕ) (w : What) → StandsIn (drop m cs) o p n w → LaidIn cs at p (m + n) (told_what g d w)
+  lay : (cs : List ℕ) (at o m : ℕ) → gap cs at ≡ Ok (o, m) → Far cs at m o → (p n g d : ℕ) (w : What) → StandsIn (drop m cs) o p n w → LaidIn cs at p (m + n) (told_what g d w)
   lay cs at o m e f p n g d (Got t) h = record {
     gapped = m;
     gap_is = rw h.start e;
@@ -146,8 +144,8 @@ module _ (rd : Reading) where
   next-laid cs at = go (gap cs at) refl (gap_sound cs at)
     where
       go : (x : Skip) → gap cs at ≡ x → Sound cs at (gap cs at) → Laid cs at (next_by rd cs x (gap_depth_of cs at))
-      go (Past o m) e h =
+      go (Ok (o, m)) e h =
           let f : Far cs at m o = (rw e at h).is in
           let y = token-or-end-stands (drop m cs) o in
           record { is = lay cs at o m e f (token_or_end rd (drop m cs) o).at (token_or_end rd (drop m cs) o).advances _ _ (token_or_end rd (drop m cs) o).what y.is }
-      go (Lost r p m) e h = record { is = (rw e at h).is }
+      go (Err (r, p, m)) e h = record { is = (rw e at h).is }

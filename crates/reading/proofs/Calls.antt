@@ -1,5 +1,5 @@
 -- Of every call, where it takes quotes, words or code: the advances are the characters passed, but for a failed attempt; a token stands from its start to its end.
-use Rattle.std.specs.Prelude.{◌+◌, ℕ, Bool, cond, ◌≡◌, drop}
+use Rattle.std.specs.Prelude.{◌+◌, ℕ, Bool, cond, ◌≡◌, drop, Ok, Err}
 use Rattle.std.proofs.Math.Bool.{false, true}
 use mathlib.Core.List.{List, [], ◌∷◌}
 use Rattle.std.proofs.Common.{eqb-true}
@@ -14,10 +14,8 @@ use Rattle.scan.specs.Far.{far_none}
 use Rattle.scan.specs.IfNext.{if_next}
 use Rattle.scan.specs.Passes.{Sound, seek-at, seek-none}
 use Rattle.scan.specs.Seek.{seek}
-use Rattle.scan.specs.declared.Found.{Found}
-use Rattle.scan.specs.declared.Found.TheVariants.{At, Nothing}
-use Rattle.scan.specs.declared.Skip.{Skip}
-use Rattle.scan.specs.declared.Skip.TheVariants.{Lost, Past}
+use Rattle.scan.specs.Shapes.{Found}
+use Rattle.scan.specs.Shapes.{Skip}
 use Rattle.scan.specs.declared.Sought.TheVariants.{Hashes, Word}
 use Rattle.code.specs.Laws.{code_sound}
 use Rattle.reading.specs.Answers.{more}
@@ -34,10 +32,10 @@ lifetime_fair : (o : ℕ) (cs : List ℕ) (at : ℕ) → Fair o cs at (lifetime_
 lifetime_fair o cs at = go (seek Word cs at) refl
   where
     go : (f : Found) → seek Word cs at ≡ f → Fair o cs at (lifetime_by o cs at f)
-    go (At p m) e =
+    go (Ok (p, m)) e =
         let f = seek-at cs at p m Word e in
         quote_after o at m cs at p _ f (fair_deliver o cs at Lifetime o p p m refl f)
-    go (Nothing p m) e = fair_deliver o cs at Lifetime o p p m refl (seek-none cs at p m Word e)
+    go (Err (p, m)) e = fair_deliver o cs at Lifetime o p p m refl (seek-none cs at p m Word e)
 
 pub lifetimeish_fair : (o : ℕ) (cs : List ℕ) (at : ℕ) → Fair o cs at (lifetimeish o cs at)
 unfolding lifetimeish
@@ -55,8 +53,8 @@ module _ (rd : Reading) where
   -- code
   module _ (o : ℕ) (cs : List ℕ) (at : ℕ) where
     code-token_fair : (kind : Kind) (from : ℕ) (x : Skip) (d : ℕ) → is_attribute kind ≡ false → Sound cs at x → Fair o cs at (code_token kind o from x d)
-    code-token_fair kind from (Past p m) d e h = let f = fair_deliver o cs at kind from p p m e h.is in record { far = f.far; span = f.span }
-    code-token_fair kind from (Lost r p m) d e h = record { far = h.is; span = tt }
+    code-token_fair kind from (Ok (p, m)) d e h = let f = fair_deliver o cs at kind from p p m e h.is in record { far = f.far; span = f.span }
+    code-token_fair kind from (Err (r, p, m)) d e h = record { far = h.is; span = tt }
 
     pub arrow_code_fair : (kind : Kind) → is_attribute kind ≡ false → Fair o cs at (arrow_code rd kind o cs at)
     unfolding arrow_code
@@ -103,8 +101,8 @@ module _ (rd : Reading) where
   identifier_fair front o cs at = go (seek Word cs at) refl
     where
       go : (f : Found) → seek Word cs at ≡ f → Fair o cs at (identifier_by rd front o cs f)
-      go (At p m) e = fair_more o cs at m p _ (seek-at cs at p m Word e) (word_fair _ o (drop m cs) p)
-      go (Nothing p m) e = fair_more o cs at m p _ (seek-none cs at p m Word e) (word_fair _ o (drop m cs) p)
+      go (Ok (p, m)) e = fair_more o cs at m p _ (seek-at cs at p m Word e) (word_fair _ o (drop m cs) p)
+      go (Err (p, m)) e = fair_more o cs at m p _ (seek-none cs at p m Word e) (word_fair _ o (drop m cs) p)
 
   pub hashed_fair : (front : List ℕ) (o h : ℕ) (cs : List ℕ) (p : ℕ) → Fair o cs p (hashed rd front o h cs p)
   unfolding hashed
@@ -120,8 +118,8 @@ module _ (rd : Reading) where
   regex_literal_fair front o cs at = go (seek Hashes cs at) refl
     where
       go : (f : Found) → seek Hashes cs at ≡ f → Fair o cs at (regex_literal_by rd front o cs f)
-      go (At p m) e = fair_more o cs at m p _ (seek-at cs at p m Hashes e) (hashed_fair front o m (drop m cs) p)
-      go (Nothing p m) e = fair_refuse o cs at _ o p m (seek-none cs at p m Hashes e)
+      go (Ok (p, m)) e = fair_more o cs at m p _ (seek-at cs at p m Hashes e) (hashed_fair front o m (drop m cs) p)
+      go (Err (p, m)) e = fair_refuse o cs at _ o p m (seek-none cs at p m Hashes e)
 
   pub r_fair : (front : List ℕ) (o : ℕ) (cs : List ℕ) (at : ℕ) → Fair o cs at (r_word rd front o cs at)
   unfolding r_word

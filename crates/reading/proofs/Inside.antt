@@ -1,6 +1,6 @@
 -- The places of a call's answer: a payload lies in its span, a refusal's place before the cursor, and neither before the call's own start; and
 -- stepping over characters comes to both ends of a payload.
-use Rattle.std.specs.Prelude.{ℕ, ◌+◌, ◌-◌, ◌≤◌, Bool, cond, ◌≡◌, drop}
+use Rattle.std.specs.Prelude.{ℕ, ◌+◌, ◌-◌, ◌≤◌, Bool, cond, ◌≡◌, drop, Ok, Err}
 use native.Mathlib.Omega.{arith}
 use Rattle.std.proofs.Math.Bool.{true, false}
 use mathlib.Core.List.{List, [], ◌∷◌}
@@ -18,10 +18,8 @@ use Rattle.scan.specs.Near.{Near, NearTurn, block_near, far_on, near_more, near_
 use Rattle.scan.specs.Passes.{Sound, regex_past, regex_none, seek-at, seek-none, string_none}
 use Rattle.scan.specs.Readers.{regex_end, str_done, str_step, string_end}
 use Rattle.scan.specs.Seek.{seek}
-use Rattle.scan.specs.declared.Found.{Found}
-use Rattle.scan.specs.declared.Found.TheVariants.{At, Nothing}
-use Rattle.scan.specs.declared.Skip.{Skip}
-use Rattle.scan.specs.declared.Skip.TheVariants.{Lost, Past}
+use Rattle.scan.specs.Shapes.{Found}
+use Rattle.scan.specs.Shapes.{Skip}
 use Rattle.scan.specs.declared.Sought.TheVariants.{Backtick, Hashes, Newline, Word}
 use Rattle.scan.specs.declared.Str.TheVariants.{Plain}
 use Rattle.code.specs.Laws.{code_sound}
@@ -37,8 +35,7 @@ use Rattle.reading.specs.Reached.{Ahead, Reached, ahead_here, ahead_on, ahead_on
 use Rattle.reading.specs.Regex.{hashed, r_word, regex_by, regex_literal, regex_literal_by, regex_token}
 use Rattle.reading.specs.Symbols.{arrow_code, arrow_look, bang, colon, dot, equals, half, look, minus, right_arrow, single, singles, stray, tilde}
 use Rattle.reading.specs.Words.{code_token, id_token, identifier_by, identifierish, keyword_token, keywords, spells, use_token, word_token}
-use Rattle.reading.specs.declared.Attempt.{Attempt}
-use Rattle.reading.specs.declared.Attempt.TheVariants.{Closed, Failed}
+use Rattle.reading.specs.Shapes.{Attempt}
 use Rattle.reading.specs.declared.Call.{Call}
 use Rattle.reading.specs.declared.What.{What}
 use Rattle.reading.specs.declared.What.TheVariants.{End, Error, Got}
@@ -174,11 +171,11 @@ module _ (rd : Reading) where
 
       -- code
       code-token-inside : (kind : Kind) (x : Skip) (d : ℕ) → Sound cs at x → Near o x → Inside P o (code_token kind o at x d)
-      code-token-inside kind (Past p m) d s n =
+      code-token-inside kind (Ok (p, m)) d s n =
           let g = far_on cs at m p s.is in
           let i = inside-deliver kind at p p m h (omega arith) (omega arith) at_here (a.all m p s.is) in
           record { is = i.is; ends = i.ends }
-      code-token-inside kind (Lost r p m) d s n = record { is = n.is; ends = tt }
+      code-token-inside kind (Err (r, p, m)) d s n = record { is = n.is; ends = tt }
 
       arrow_code-inside : (kind : Kind) → Inside P o (arrow_code rd kind o cs at)
       unfolding arrow_code
@@ -205,14 +202,14 @@ module _ (rd : Reading) where
           search (inside-test, inside-plain)
 
       -- quotes
-      quoted_inside : (kind : Kind) (code : Code) (f : Found) → ((p m : ℕ) → f ≡ At p m → Far cs at m p) → ((p m : ℕ) → f ≡ Nothing p m → Far cs at m p)
+      quoted_inside : (kind : Kind) (code : Code) (f : Found) → ((p m : ℕ) → f ≡ Ok (p, m) → Far cs at m p) → ((p m : ℕ) → f ≡ Err (p, m) → Far cs at m p)
           → Inside P o (string_or_char_literal kind code o at f)
-      quoted_inside kind code (At p m) b c =
+      quoted_inside kind code (Ok (p, m)) b c =
           let g = far_on cs at m p (b p m refl) in
           inside-deliver kind at p (p + 1) (m + 1) h (omega arith) (omega arith) at_here (a.all m p (b p m refl))
-      quoted_inside kind code (Nothing p m) b c = let g = far_on cs at m p (c p m refl) in inside-refuse code o p m (omega arith) (omega arith)
+      quoted_inside kind code (Err (p, m)) b c = let g = far_on cs at m p (c p m refl) in inside-refuse code o p m (omega arith) (omega arith)
 
-      string_before : (q p m : ℕ) → string_end q cs at ≡ At p m → Far cs at m p
+      string_before : (q p m : ℕ) → string_end q cs at ≡ Ok (p, m) → Far cs at m p
       string_before q p m e = from_0 cs at m p (until-before (str_step q) str_done p m cs Plain at 0 e)
 
       escape-inside : Inside P o (escape o cs at)
@@ -231,12 +228,12 @@ module _ (rd : Reading) where
       lifetime_inside = go (seek Word cs at) refl
         where
           go : (f : Found) → seek Word cs at ≡ f → Inside P o (lifetime_by o cs at f)
-          go (At p m) e =
+          go (Ok (p, m)) e =
               let f = seek-at cs at p m Word e in
               let g = far_on cs at m p f in
               inside-next 39 (drop m cs) _ _ (inside-deliver CharLiteral at p (p + 1) (m + 1) h (omega arith) (omega arith) at_here (a.all m p f))
               (inside-deliver Lifetime o p p m (omega arith) (omega arith) (omega arith) here (a.all m p f))
-          go (Nothing p m) e =
+          go (Err (p, m)) e =
               let f = seek-none cs at p m Word e in
               let g = far_on cs at m p f in
               inside-deliver Lifetime o p p m (omega arith) (omega arith) (omega arith) here (a.all m p f)
@@ -247,11 +244,11 @@ module _ (rd : Reading) where
       regex_inside n = go (regex_end n cs at) refl
         where
           go : (f : Found) → regex_end n cs at ≡ f → Inside P o (regex_by o n at f)
-          go (At p m) e =
+          go (Ok (p, m)) e =
               let g = far_on cs at (m + 1) (p + 1) (regex_past cs at p m n e) in
               let l = regex_long n cs at p m e in
               inside-deliver _ at (p - n) (p + 1) (m + 1) h (omega arith) (omega arith) at_here (regex_quote P n cs at p m a e)
-          go (Nothing p m) e = let g = far_on cs at m p (regex_none cs at p m n e) in inside-refuse _ o p m (omega arith) (omega arith)
+          go (Err (p, m)) e = let g = far_on cs at m p (regex_none cs at p m n e) in inside-refuse _ o p m (omega arith) (omega arith)
 
     arrow_inside : (cs : List ℕ) (at : ℕ) → o ≤ at → Ahead P cs at → Inside P o (right_arrow rd o cs at)
     unfolding right_arrow
@@ -283,8 +280,8 @@ module _ (rd : Reading) where
         to p m f = let g = far_on cs at m p f in inside-more m _ (word_inside (drop m cs) p (omega arith) (ahead_on P cs at m p a f) front)
 
         go : (f : Found) → seek Word cs at ≡ f → Inside P o (identifier_by rd front o cs f)
-        go (At p m) e = to p m (seek-at cs at p m Word e)
-        go (Nothing p m) e = to p m (seek-none cs at p m Word e)
+        go (Ok (p, m)) e = to p m (seek-at cs at p m Word e)
+        go (Err (p, m)) e = to p m (seek-none cs at p m Word e)
 
     hashed-inside : (front : List ℕ) (n : ℕ) (cs : List ℕ) (p : ℕ) → o ≤ p → Ahead P cs p → Inside P o (hashed rd front o n cs p)
     unfolding hashed
@@ -302,11 +299,11 @@ module _ (rd : Reading) where
     regex_literal-inside front cs at h a = go (seek Hashes cs at) refl
       where
         go : (f : Found) → seek Hashes cs at ≡ f → Inside P o (regex_literal_by rd front o cs f)
-        go (At p m) e =
+        go (Ok (p, m)) e =
             let f = seek-at cs at p m Hashes e in
             let g = far_on cs at m p f in
             inside-more m _ (hashed-inside front m (drop m cs) p (omega arith) (ahead_on P cs at m p a f))
-        go (Nothing p m) e = let g = far_on cs at m p (seek-none cs at p m Hashes e) in inside-refuse _ o p m (omega arith) (omega arith)
+        go (Err (p, m)) e = let g = far_on cs at m p (seek-none cs at p m Hashes e) in inside-refuse _ o p m (omega arith) (omega arith)
 
     r_inside : (front cs : List ℕ) (at : ℕ) → o ≤ at → Ahead P cs at → Inside P o (r_word rd front o cs at)
     unfolding r_word
@@ -320,11 +317,11 @@ module _ (rd : Reading) where
     hash-inside cs at h a = go (attempt cs at) (attempt_tried cs at)
       where
         go : (x : Attempt) → Tried cs at x → Inside P o (hash_by rd o cs at x)
-        go (Closed p m) t =
+        go (Ok (p, m)) t =
             let g = far_on cs at m p t.is in
             let k = far_on (drop m cs) p _ _ (tail_far rd (drop m cs) p) in
             inside-more m _ (record { is = (omega arith, omega arith, omega arith, omega arith, omega arith); ends = (here, a.all m p t.is) })
-        go (Failed p m) t = inside-plain _ at m h
+        go (Err (p, m)) t = inside-plain _ at m h
 
     single-inside : (ks : List (ℕ × Kind)) (c at : ℕ) (x : Call) → o ≤ at → Inside P o x → Inside P o (single ks c o at x)
     unfolding single
@@ -350,10 +347,10 @@ module _ (rd : Reading) where
   next-inside cs at = go (gap cs at) (gap_near cs at) (gap_sound cs at)
     where
       go : (x : Skip) → Near at x → Sound cs at x → Inside (Reached cs at) at (next_by rd cs x (gap_depth_of cs at))
-      go (Past p m) n s =
+      go (Ok (p, m)) n s =
           let g = far_on cs at m p s.is in
           let a = ahead_on (Reached cs at) cs at m p (ahead_reached cs at) s.is in
           let i = token-inside (Reached cs at) p (ahead_here (Reached cs at) (drop m cs) p a) (drop m cs) a in
           let x = token_or_end rd (drop m cs) p in
           record { is = lower at p x.at _ _ x.what (omega arith) i.is; ends = told-ends (Reached cs at) _ _ x.what i.ends }
-      go (Lost r p m) n s = record { is = n.is; ends = tt }
+      go (Err (r, p, m)) n s = record { is = n.is; ends = tt }

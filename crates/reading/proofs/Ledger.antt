@@ -1,6 +1,6 @@
 -- THE BOOKS CLOSE. Of every run from a running tokenizer, and so of one from the start of a text; ledger/specs/Books says the same of what
 -- `run::run` answers.
-use Rattle.std.specs.Prelude.{◌*◌, ◌+◌, ◌-◌, ◌<◌, ◌≤◌, suc, ℕ, List, [], ◌∷◌, ◌≡◌, refl, drop, take}
+use Rattle.std.specs.Prelude.{◌*◌, ◌+◌, ◌-◌, ◌<◌, ◌≤◌, suc, ℕ, List, [], ◌∷◌, ◌≡◌, refl, drop, take, Ok}
 use Rattle.std.proofs.Common.{arith, ◌∙◌, sym, take-append-drop, drop-drop}
 use Rattle.std.proofs.Math.Path.{ap}
 use Rattle.std.proofs.Math.ListN.{length}
@@ -10,7 +10,6 @@ use Rattle.record.specs.declared.Reading.{Reading}
 use Rattle.record.specs.declared.Token.{Token}
 use Rattle.scan.specs.Far.{Far, far_left, short}
 use Rattle.scan.specs.Until.{left}
-use Rattle.scan.specs.declared.Skip.TheVariants.{Past}
 use Rattle.reading.specs.Answers.{start_in}
 use Rattle.reading.specs.Blank.{Blank}
 use Rattle.reading.proofs.Blanks.{gap-blank}
@@ -48,7 +47,7 @@ lay-token rd s shift at t p n h ts rest =
     (rw (← a, ← b, ← c, q) rest)
 
 -- the last gap, up to the end
-all_blank : (cs : List ℕ) (at p : ℕ) → gap cs at ≡ Past p (length cs) → Blank [] cs
+all_blank : (cs : List ℕ) (at p : ℕ) → gap cs at ≡ Ok (p, length cs) → Blank [] cs
 all_blank cs at p e =
     let h : Blank (drop (length cs) cs) cs = rw (take-length cs) at (gap-blank cs at p (length cs) e) in
     rw (drop-length cs) at h
@@ -97,7 +96,7 @@ module _ (rd : Reading) (s : List ℕ) (shift : ℕ) where
   tiles (failed p n f e c ne nr sd) h = absurd (ne h)
   tiles {k} {at} (finished p g e c nr sd) h =
       let f : Far (left s at) at (length (left s at)) p = (rw g at (gap_sound (left s at) at)).is in
-      let z : gap (left s at) at ≡ Past (reach (left s at) at) (length (left s at)) = rw (far_whole (left s at) at p f) at g in
+      let z : gap (left s at) at ≡ Ok (reach (left s at) at, length (left s at)) = rw (far_whole (left s at) at p f) at g in
       rw e (gap-last z (all_blank (left s at) at p g))
   tiles {k} {at} {count} {r} (took t p n r' pl st e) h =
       let i = tiles st (ap (λ (x : Run). x.how) (sym e) ∙ h) in

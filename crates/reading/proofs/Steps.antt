@@ -1,5 +1,5 @@
 -- What the code will cite: where a run of spaces ends a gap, and how many advances a call has.
-use Rattle.std.specs.Prelude.{◌*◌, ◌+◌, ◌-◌, ◌<◌, ◌≤◌, ℕ, Bool, not, ◌≡◌, leb, drop, get_or}
+use Rattle.std.specs.Prelude.{◌*◌, ◌+◌, ◌-◌, ◌<◌, ◌≤◌, ℕ, Bool, not, ◌≡◌, leb, drop, get_or, Ok, Err}
 use Rattle.std.proofs.Common.{◌∙◌, ap}
 use native.Mathlib.Omega.{arith}
 use Rattle.std.proofs.Math.Bool.{false, true}
@@ -18,7 +18,6 @@ use Rattle.scan.specs.Runs.{byte_seen, neither, run, run_on, run-over}
 use Rattle.scan.specs.Turns.{walk_pass, walk-stop}
 use Rattle.scan.specs.Until.{left}
 use Rattle.scan.specs.Walk.{walk_from}
-use Rattle.scan.specs.declared.Skip.TheVariants.{Past}
 use Rattle.scan.specs.declared.Turn.TheVariants.{Stop}
 use Rattle.reading.specs.Answers.{deliver, more, plain}
 use Rattle.reading.specs.Attribute.{attempt, attribute_token, dropped, hash, hash_by}
@@ -31,8 +30,7 @@ use Rattle.reading.specs.Next.{next, token, token_or_end}
 use Rattle.reading.specs.Passes.{gap_sound}
 use Rattle.reading.proofs.Sums.{passed_by, placed_far}
 use Rattle.reading.specs.Sums.{cost-le, wasted-most}
-use Rattle.reading.specs.declared.Attempt.{Attempt}
-use Rattle.reading.specs.declared.Attempt.TheVariants.{Closed, Failed}
+use Rattle.reading.specs.Shapes.{Attempt}
 use Rattle.reading.specs.declared.Call.{Call}
 use Rattle.reading.specs.declared.What.{What}
 use Rattle.reading.specs.declared.What.TheVariants.{End, Error, Got}
@@ -45,7 +43,7 @@ stop-turn x cs at next n w = rw (ne_eqb x 47 n) (rw w)
 module _ (s : List ℕ) where
   -- a byte below 128 that neither is white space nor starts a comment ends the gap
   pub gap-over : (at n : ℕ) → at < length s → get_or s at 0 < 128 → (get_or s at 0 ≡ 47 → ⊥) → is_whitespace (get_or s at 0) ≡ false
-      → walk_from gap_turn gap_last 0 (left s at) 0 at n ≡ Past at n
+      → walk_from gap_turn gap_last 0 (left s at) 0 at n ≡ Ok (at, n)
   gap-over at n l a b w = walk-stop gap_turn gap_last (byte_seen s at l a) 0 n (stop-turn (get_or s at 0) (left s (at + 1)) at (at + 1) b w)
 
   gap-on : (at n : ℕ) → at < length s → gap_stop (get_or s at 0) ≡ false
@@ -93,7 +91,7 @@ module _ (s : List ℕ) where
 
   -- so one that starts no comment ends the gap
   pub gap_ends : (from to : ℕ) → to ≡ from + run gap_stop (drop from s) → to < length s → get_or s to 0 < 128 → (get_or s to 0 ≡ 47 → ⊥)
-      → (gap (left s from) from ≡ Past to (to - from)) × (gap_depth_of (left s from) from ≡ 0)
+      → (gap (left s from) from ≡ Ok (to, to - from)) × (gap_depth_of (left s from) from ≡ 0)
   unfolding gap
   gap_ends from to e l a n =
       let w = run_done from to e l a in
@@ -108,8 +106,8 @@ module _ (rd : Reading) where
   hash-most o cs at = go (attempt cs at) (attempt_tried cs at)
     where
       go : (x : Attempt) → Tried cs at x → (hash_by rd o cs at x).advances ≤ length cs
-      go (Closed p m) h = let f : Far cs at m p = h.is in omega (arith, f.within, (tail_far rd (drop m cs) p).within, length-drop m cs)
-      go (Failed p m) h = h.is.within
+      go (Ok (p, m)) h = let f : Far cs at m p = h.is in omega (arith, f.within, (tail_far rd (drop m cs) p).within, length-drop m cs)
+      go (Err (p, m)) h = h.is.within
 
   token-most : (cs : List ℕ) (o : ℕ) → (token_or_end rd cs o).advances ≤ length cs
   unfolding token_or_end token more

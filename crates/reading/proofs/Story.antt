@@ -1,6 +1,6 @@
 -- A run as a story of calls: each token taken, and how it stopped.
 use Prim.Native.Nat.{◌+◌, ◌-◌, suc, zero, ℕ}
-use Rattle.std.proofs.Common.{arith, ◌∙◌, sym}
+use Rattle.std.proofs.Common.{arith, ◌∙◌, sym, Ok}
 use Rattle.std.specs.Prelude.{Bool, List, [], ◌≡◌, ltb, length}
 use Rattle.std.proofs.Math.Bool.{false, true}
 use Rattle.std.proofs.Math.Path.{ap, refl}
@@ -11,7 +11,6 @@ use Rattle.record.specs.declared.Refusal.{Refusal}
 use Rattle.record.specs.declared.Token.{Token}
 use Rattle.scan.specs.Far.{Far}
 use Rattle.scan.specs.Until.{left}
-use Rattle.scan.specs.declared.Skip.TheVariants.{Past}
 use Rattle.reading.proofs.AnyCall.{sticky_end, sticky_error, turn_end, turn_error, turn_full, turn_got}
 use Rattle.reading.proofs.CallLaw.{Laid, LaidIn, Placed, next-laid}
 use Rattle.reading.specs.Gaps.{gap}
@@ -34,7 +33,7 @@ pub data Story (rd : Reading) (s : List ℕ) (shift : ℕ) : ℕ → ℕ → ℕ
   failed : {k at count : ℕ} {r : Run} (p n : ℕ) → Far (left s at) at n p → r.tokens ≡ [] → r.state.count ≡ count + n → (r.how ≡ Ended → ⊥)
       → (r.how ≡ Running → ⊥) → r.state.done ≡ r.how → Story rd s shift k at count r
   -- the end
-  finished : {k at count : ℕ} {r : Run} (p : ℕ) → gap (left s at) at ≡ Past p (length (left s at)) → r.tokens ≡ []
+  finished : {k at count : ℕ} {r : Run} (p : ℕ) → gap (left s at) at ≡ Ok (p, length (left s at)) → r.tokens ≡ []
       → r.state.count ≡ count + length (left s at) → (r.how ≡ Running → ⊥) → r.state.done ≡ r.how → Story rd s shift k at count r
   -- a token t, and the rest of the run
   took : {k at count : ℕ} {r : Run} (t : Token) (p n : ℕ) (r' : Run) → Placed rd (left s at) at t p n → Story rd s shift k p (count + n) r'
@@ -103,7 +102,7 @@ module _ (s : List ℕ) (shift limit : ℕ) where
         (not-running z r.how (ap (λ (x : Run). x.how) e))
         (ap (λ (x : Run). x.state.done) e ∙ d ∙ sym (ap (λ (x : Run). x.how) e))
 
-  as_finished : (rd : Reading) (k at n : ℕ) (r : Run) (g : ℕ) (u : Tokenizer) → r ≡ ending g u → (p : ℕ) → gap (left s at) at ≡ Past p (length (left s at))
+  as_finished : (rd : Reading) (k at n : ℕ) (r : Run) (g : ℕ) (u : Tokenizer) → r ≡ ending g u → (p : ℕ) → gap (left s at) at ≡ Ok (p, length (left s at))
       → u.count ≡ n + length (left s at) → u.done ≡ Ended → Story rd s shift k at n r
   as_finished rd k at n r g u e p f c d =
       finished p f (ap (λ (x : Run). x.tokens) e) (ap (λ (x : Run). x.state.count) e ∙ c) (end-not-running r.how (ap (λ (x : Run). x.how) e))

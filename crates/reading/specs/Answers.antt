@@ -1,11 +1,10 @@
 -- How an answer is made. A token record is made here and nowhere else.
-use Rattle.std.specs.Prelude.{◌+◌, ℕ}
+use Rattle.std.specs.Prelude.{◌+◌, ℕ, Some}
 use Rattle.record.specs.Records.{refusal, token_of}
 use Rattle.record.specs.declared.Code.{Code}
 use Rattle.record.specs.declared.Kind.{Kind}
 use Rattle.record.specs.declared.Refusal.{Refusal}
 use Rattle.record.specs.declared.Token.{Token}
-use Rattle.record.specs.declared.Told.TheVariants.{Is}
 use Rattle.record.specs.declared.Reading.{Reading}
 use Rattle.record.specs.declared.Reading.TheVariants.{Old}
 use Rattle.reading.specs.declared.Call.{Call}
@@ -46,8 +45,8 @@ told_token g d t = record {
   end = t.end;
   payload_start = t.payload_start;
   payload_end = t.payload_end;
-  gap_depth = Is g;
-  code_depth = Is d;
+  gap_depth = Some g;
+  code_depth = Some d;
 }
 
 abbrev pub told_what : ℕ → ℕ → What → What

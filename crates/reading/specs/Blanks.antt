@@ -1,6 +1,6 @@
 -- Whatever the gap's reader passes is blank: its comments. The gap itself is in proofs/Blanks.antt.
 use Prim.Native.Nat.{◌+◌, ◌-◌, ◌<◌, suc, zero, ℕ}
-use Rattle.std.proofs.Common.{arith, take-append-drop, drop-drop, take-add, eqb-true, ltb-false, ltb-true}
+use Rattle.std.proofs.Common.{arith, take-append-drop, drop-drop, take-add, eqb-true, ltb-false, ltb-true, Ok, Err}
 use Rattle.std.specs.Prelude.{Bool, cond, false, true, List, [], ◌++◌, ◌∷◌, eqb, ltb, drop, take}
 use Rattle.std.proofs.Math.Path.{◌≡◌, refl}
 use Rattle.utf8.specs.Utf8.{width_of}
@@ -13,10 +13,8 @@ use Rattle.scan.specs.Until.{until}
 use Rattle.scan.specs.Walk.{turn_of}
 use Rattle.scan.specs.declared.Com.{Com}
 use Rattle.scan.specs.declared.Com.TheVariants.{Complete, Open, Slash, Star}
-use Rattle.scan.specs.declared.Found.{Found}
-use Rattle.scan.specs.declared.Found.TheVariants.{At, Nothing}
-use Rattle.scan.specs.declared.Skip.{Skip}
-use Rattle.scan.specs.declared.Skip.TheVariants.{Lost, Past}
+use Rattle.scan.specs.Shapes.{Found, same_ok}
+use Rattle.scan.specs.Shapes.{Skip}
 use Rattle.scan.specs.declared.Sought.TheVariants.{Newline}
 use Rattle.scan.specs.declared.Turn.{Turn}
 use Rattle.scan.specs.declared.Turn.TheVariants.{Fail, Pass, Stop}
@@ -126,27 +124,27 @@ step-deep (Star d) c p f = star_deep d c [] (eqb c 42) (eqb c 47) (ltb d 2) refl
 step-deep Complete c p f = absurd (omega arith)
 
 -- k characters before the one that ends it
-comment_from : (p m : ℕ) (cs : List ℕ) (st : Com) (at n k : ℕ) → 0 < depth_of st → m ≡ n + k → until com_step com_done st cs at n ≡ At p m → Rest st (take (suc k) cs)
+comment_from : (p m : ℕ) (cs : List ℕ) (st : Com) (at n k : ℕ) → 0 < depth_of st → m ≡ n + k → until com_step com_done st cs at n ≡ Ok (p, m) → Rest st (take (suc k) cs)
 unfolding until
 comment_from p m [] st at n k d j e = let w : ◌≡◌ {A = ℕ} 0 1 = cc in absurd (omega arith)
 comment_from p m (c ∷ cs) st at n k d j e = go k j (com_done (com_step st c)) refl (comment_from p m cs (com_step st c) (at + width_of c) (n + 1))
   where
     go : (k : ℕ) → m ≡ n + k → (b : Bool) → com_done (com_step st c) ≡ b
-        → ((k : ℕ) → 0 < depth_of (com_step st c) → m ≡ n + 1 + k → until com_step com_done (com_step st c) cs (at + width_of c) (n + 1) ≡ At p m → Rest (com_step st c) (take (suc k) cs))
+        → ((k : ℕ) → 0 < depth_of (com_step st c) → m ≡ n + 1 + k → until com_step com_done (com_step st c) cs (at + width_of c) (n + 1) ≡ Ok (p, m) → Rest (com_step st c) (take (suc k) cs))
         → Rest st (take (suc k) (c ∷ cs))
     go zero j true q f = step-last st c d q
     go (suc k) j true q f =
-        let u : At at n ≡ At p m = rw (q, until) at e in
-        let y : n ≡ m = cc in
+        let u : Ok (at, n) ≡ Ok (p, m) = rw (q, until) at e in
+        let y : n ≡ m = (same_ok _ _ _ _ u).1 in
         absurd (omega arith)
     go zero j false q f =
-        let u : until com_step com_done (com_step st c) cs (at + width_of c) (n + 1) ≡ At p m = rw (q, until) at e in
+        let u : until com_step com_done (com_step st c) cs (at + width_of c) (n + 1) ≡ Ok (p, m) = rw (q, until) at e in
         let z = until-before com_step com_done p m cs (com_step st c) (at + width_of c) (n + 1) u in
         absurd (omega (arith, z.more))
     go (suc k) j false q f =
         step_back st c (take (suc k) cs) q (f k (step-deep st c d q) (omega arith) (rw (q, until) at e))
 
-pub comment_blank : (cs : List ℕ) (at p m : ℕ) → comment_end cs at ≡ At p m → Comment 1 (take (suc m) cs)
+pub comment_blank : (cs : List ℕ) (at p m : ℕ) → comment_end cs at ≡ Ok (p, m) → Comment 1 (take (suc m) cs)
 comment_blank cs at p m e = comment_from p m cs (Open 1) at 0 m (omega arith) (omega arith) e
 
 -- ---- the rest of a line
@@ -156,15 +154,15 @@ pub record Line (n m : ℕ) (cs : List ℕ) : Type 0 where
   pub one : one_line (take passed cs) ≡ true
   pub over : line_over (drop passed cs) ≡ true
 
-pub line-from : (p m : ℕ) (cs : List ℕ) (st : Bool) (at n : ℕ) → up_to (until (seek_step Newline) seek_done st cs at n) ≡ Past p m → Line n m cs
+pub line-from : (p m : ℕ) (cs : List ℕ) (st : Bool) (at n : ℕ) → up_to (until (seek_step Newline) seek_done st cs at n) ≡ Ok (p, m) → Line n m cs
 unfolding until one_line line_over
-line-from p m [] st at n e = let y : n ≡ m = cc in record { passed = 0; counted = omega arith; one = refl; over = refl }
+line-from p m [] st at n e = let y : n ≡ m = (same_ok _ _ _ _ e).1 in record { passed = 0; counted = omega arith; one = refl; over = refl }
 line-from p m (c ∷ cs) st at n e = go (eqb c 10) refl (line-from p m cs (eqb c 10) (at + width_of c) (n + 1))
   where
-    go : (b : Bool) → eqb c 10 ≡ b → (up_to (until (seek_step Newline) seek_done (eqb c 10) cs (at + width_of c) (n + 1)) ≡ Past p m → Line (n + 1) m cs) → Line n m (c ∷ cs)
+    go : (b : Bool) → eqb c 10 ≡ b → (up_to (until (seek_step Newline) seek_done (eqb c 10) cs (at + width_of c) (n + 1)) ≡ Ok (p, m) → Line (n + 1) m cs) → Line n m (c ∷ cs)
     go true q f =
-        let u : Past at n ≡ Past p m = rw (q, until) at e in
-        let y : n ≡ m = cc in
+        let u : Ok (at, n) ≡ Ok (p, m) = rw (q, until) at e in
+        let y : n ≡ m = (same_ok _ _ _ _ u).1 in
         record { passed = 0; counted = omega arith; one = refl; over = q }
     go false q f =
         let h = f (rw (q, until) at e) in
@@ -182,26 +180,26 @@ pub record Covers (c : ℕ) (cs : List ℕ) (x : Turn) : Type 0 where
 
 module _ (cs : List ℕ) (at : ℕ) where
   -- the second slash is no newline
-  line-slashes : (p m : ℕ) → line_skip (47 ∷ cs) at ≡ Past p m → (k : ℕ) → m ≡ k → one_line (take k (47 ∷ cs)) ≡ true → line_over (drop k (47 ∷ cs)) ≡ true
+  line-slashes : (p m : ℕ) → line_skip (47 ∷ cs) at ≡ Ok (p, m) → (k : ℕ) → m ≡ k → one_line (take k (47 ∷ cs)) ≡ true → line_over (drop k (47 ∷ cs)) ≡ true
       → (xs rest : List ℕ) → drop m (47 ∷ cs) ≡ xs ++ rest → Blank rest xs → Blank rest (47 ∷ take m (47 ∷ cs) ++ xs)
   unfolding one_line line_over
   line-slashes p m e zero y a b xs rest d h = let w : ◌≡◌ {A = ℕ} 0 1 = cc in absurd (omega arith)
   line-slashes p m e (suc k) y a b xs rest d h = rw y (line {xs = xs} (take k cs) a (rw (← d, y) b) h)
 
   line-covers : (x : Skip) → line_skip (47 ∷ cs) at ≡ x → Covers 47 (47 ∷ cs) (turn_of 0 x)
-  line-covers (Past p m) e =
+  line-covers (Ok (p, m)) e =
       let l = line-from p m (47 ∷ cs) false at 0 e in
       let y = l.counted in
       record { is = line-slashes p m e l.passed (omega arith) l.one l.over }
-  line-covers (Lost r p m) e = record { is = tt }
+  line-covers (Err (r, p, m)) e = record { is = tt }
 
   block_covers : (o : ℕ) (f : Found) → comment_end cs at ≡ f → Covers 47 (42 ∷ cs) (turn_of 0 (skip_more 1 (through UnterminatedBlockComment o f)))
-  block_covers o (At p m) e = record {
+  block_covers o (Ok (p, m)) e = record {
     is = λ xs rest d h.
         let z : 1 + (m + 1) ≡ suc (suc m) = omega arith in
         rw z (block (take (suc m) cs) (comment_blank cs at p m e) h);
   }
-  block_covers o (Nothing p m) e = record { is = tt }
+  block_covers o (Err (p, m)) e = record { is = tt }
 
 pub covers-test : (c : ℕ) (cs : List ℕ) (t : Bool) (x y : Turn) → (t ≡ true → Covers c cs x) → (t ≡ false → Covers c cs y) → Covers c cs (cond t x y)
 covers-test c cs true x y p q = p refl

@@ -1,6 +1,6 @@
 -- What an attribute attempt passes, and what is passed after an attribute: for the law of a call (proofs/CallLaw.antt).
 use Prim.Native.Nat.{◌+◌, ◌≤◌, suc, zero, ℕ}
-use Rattle.std.proofs.Common.{arith, ap, eqb-true}
+use Rattle.std.proofs.Common.{arith, ap, eqb-true, Ok, Err}
 use Rattle.std.specs.Prelude.{Bool, cond, ◌≡◌, drop, length}
 use Rattle.std.proofs.Math.Bool.{false, true}
 use mathlib.Core.List.{List, [], ◌∷◌}
@@ -13,12 +13,10 @@ use Rattle.scan.specs.Far.{Far, after, far_none, one_far, one_more, then}
 use Rattle.scan.specs.IfNext.{if_next}
 use Rattle.scan.specs.Passes.{Sound}
 use Rattle.scan.specs.Walk.{walk}
-use Rattle.scan.specs.declared.Skip.{Skip}
-use Rattle.scan.specs.declared.Skip.TheVariants.{Lost, Past}
+use Rattle.scan.specs.Shapes.{Skip}
 use Rattle.reading.specs.Attribute.{advances_of, attempt, attempt_body, attempt_bracket, attempt_more, attribute_last, attribute_turn, body_by, dropped, place_of}
 use Rattle.reading.specs.Passes.{attribute_sound}
-use Rattle.reading.specs.declared.Attempt.{Attempt}
-use Rattle.reading.specs.declared.Attempt.TheVariants.{Closed, Failed}
+use Rattle.reading.specs.Shapes.{Attempt}
 
 -- the characters that an attempt passes, closed or failed, lead to its place
 pub record Tried (cs : List ℕ) (at : ℕ) (x : Attempt) : Type 0 where
@@ -29,24 +27,24 @@ tried_test cs at true x y p q = p
 tried_test cs at false x y p q = q
 
 tried_one : (c : ℕ) (cs : List ℕ) (at : ℕ) (x : Attempt) → Tried cs (at + width_of c) x → Tried (c ∷ cs) at (attempt_more 1 x)
-tried_one c cs at (Closed p m) h = record { is = one_more c cs at m p h.is }
-tried_one c cs at (Failed p m) h = record { is = one_more c cs at m p h.is }
+tried_one c cs at (Ok (p, m)) h = record { is = one_more c cs at m p h.is }
+tried_one c cs at (Err (p, m)) h = record { is = one_more c cs at m p h.is }
 
-tried_first : (c : ℕ) (cs : List ℕ) (at : ℕ) → Tried (c ∷ cs) at (Failed (at + width_of c) 1)
+tried_first : (c : ℕ) (cs : List ℕ) (at : ℕ) → Tried (c ∷ cs) at (Err (at + width_of c, 1))
 tried_first c cs at = record { is = one_far c cs at }
 
-tried_close : (cs : List ℕ) (at p m : ℕ) → Far cs at m p → Tried cs at (body_by cs (Past p m))
+tried_close : (cs : List ℕ) (at p m : ℕ) → Far cs at m p → Tried cs at (body_by cs (Ok (p, m)))
 unfolding if_next width_of
 tried_close cs at p m f = go (drop m cs) refl
   where
-    at_bracket : (c : ℕ) (l : List ℕ) → drop m cs ≡ c ∷ l → (t : Bool) → eqb c 93 ≡ t → Tried cs at (cond (eqb c 93) (Closed (p + 1) (m + 1)) (Failed p m))
+    at_bracket : (c : ℕ) (l : List ℕ) → drop m cs ≡ c ∷ l → (t : Bool) → eqb c 93 ≡ t → Tried cs at (cond (eqb c 93) (Ok (p + 1, m + 1)) (Err (p, m)))
     at_bracket c l e true q =
         let v : p + width_of c ≡ p + 1 = ap (λ (j : ℕ). p + width_of j) (eqb-true c 93 q) in
         let g : Far (drop m cs) p 1 (p + 1) = rw e (rw v at (one_far c l p)) in
         rw q (record { is = then m cs at p 1 (p + 1) f g })
     at_bracket c l e false q = rw q (record { is = f })
 
-    go : (l : List ℕ) → drop m cs ≡ l → Tried cs at (if_next 93 l (Closed (p + 1) (m + 1)) (Failed p m))
+    go : (l : List ℕ) → drop m cs ≡ l → Tried cs at (if_next 93 l (Ok (p + 1, m + 1)) (Err (p, m)))
     go [] e = record { is = f }
     go (c ∷ l) e = at_bracket c l e (eqb c 93) refl
 
@@ -55,8 +53,8 @@ unfolding attempt_body
 body_tried cs at = go (walk attribute_turn attribute_last 1 cs at) (attribute_sound cs at)
   where
     go : (x : Skip) → Sound cs at x → Tried cs at (body_by cs x)
-    go (Past p m) h = tried_close cs at p m h.is
-    go (Lost r p m) h = record { is = h.is }
+    go (Ok (p, m)) h = tried_close cs at p m h.is
+    go (Err (r, p, m)) h = record { is = h.is }
 
 pub bracket_tried : (cs : List ℕ) (at : ℕ) → Tried cs at (attempt_bracket cs at)
 unfolding attempt_bracket

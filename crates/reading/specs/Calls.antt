@@ -1,6 +1,6 @@
 -- Of every call: the advances are the characters passed, but for a failed attempt; a token stands from its start to its end. What takes
 -- keywords, lifetimes or code is in proofs/Calls.antt.
-use Rattle.std.specs.Prelude.{◌+◌, ◌-◌, ◌<◌, ℕ, Bool, cond, ◌≡◌, drop}
+use Rattle.std.specs.Prelude.{◌+◌, ◌-◌, ◌<◌, ℕ, Bool, cond, ◌≡◌, drop, Ok, Err}
 use native.Mathlib.Omega.{arith}
 use Rattle.std.proofs.Math.Bool.{false, true}
 use mathlib.Core.List.{List, [], ◌∷◌}
@@ -17,8 +17,7 @@ use Rattle.scan.specs.IfNext.{if_next}
 use Rattle.scan.specs.Passes.{backtick_past, regex_none, regex_past, seek-none, string_none, string_past}
 use Rattle.scan.specs.Readers.{regex_end, string_end}
 use Rattle.scan.specs.Seek.{seek}
-use Rattle.scan.specs.declared.Found.{Found}
-use Rattle.scan.specs.declared.Found.TheVariants.{At, Nothing}
+use Rattle.scan.specs.Shapes.{Found}
 use Rattle.scan.specs.declared.Sought.TheVariants.{Backtick}
 use Rattle.reading.specs.Answers.{deliver, more, plain, refuse}
 use Rattle.reading.specs.Measures.{is_attribute}
@@ -126,10 +125,10 @@ module _ (o : ℕ) (cs : List ℕ) (at : ℕ) where
 -- quotes
 module _ (o : ℕ) (cs : List ℕ) (at : ℕ) where
   quoted_fair : (kind : Kind) (code : Code) (f : Found) → is_attribute kind ≡ false
-      → ((p m : ℕ) → f ≡ At p m → Far cs at (m + 1) (p + 1)) → ((p m : ℕ) → f ≡ Nothing p m → Far cs at m p)
+      → ((p m : ℕ) → f ≡ Ok (p, m) → Far cs at (m + 1) (p + 1)) → ((p m : ℕ) → f ≡ Err (p, m) → Far cs at m p)
       → Fair o cs at (string_or_char_literal kind code o at f)
-  quoted_fair kind code (At p m) e g h = fair_deliver o cs at kind at p (p + 1) (m + 1) e (g p m refl)
-  quoted_fair kind code (Nothing p m) e g h = fair_refuse o cs at code o p m (h p m refl)
+  quoted_fair kind code (Ok (p, m)) e g h = fair_deliver o cs at kind at p (p + 1) (m + 1) e (g p m refl)
+  quoted_fair kind code (Err (p, m)) e g h = fair_refuse o cs at code o p m (h p m refl)
 
   pub escape_fair : Fair o cs at (escape o cs at)
   unfolding escape
@@ -182,8 +181,8 @@ unfolding regex_token
 regex_fair o h cs at = go (regex_end h cs at) refl
   where
     go : (f : Found) → regex_end h cs at ≡ f → Fair o cs at (regex_by o h at f)
-    go (At p m) e = fair_deliver o cs at RegexLiteral at (p - h) (p + 1) (m + 1) refl (regex_past cs at p m h e)
-    go (Nothing p m) e = fair_refuse o cs at _ o p m (regex_none cs at p m h e)
+    go (Ok (p, m)) e = fair_deliver o cs at RegexLiteral at (p - h) (p + 1) (m + 1) refl (regex_past cs at p m h e)
+    go (Err (p, m)) e = fair_refuse o cs at _ o p m (regex_none cs at p m h e)
 
 -- a call at its first character: a token passes at least one
 abbrev pub MovesIn : ℕ → What → Type 0

@@ -1,13 +1,12 @@
 -- Gaps. 01: "Gaps: whitespace; // up to but not including newline or end; nested /* */."
-use Rattle.std.specs.Prelude.{◌+◌, ℕ, cond, List, [], ◌∷◌, eqb}
+use Rattle.std.specs.Prelude.{◌+◌, ℕ, cond, List, [], ◌∷◌, eqb, Ok}
 use Rattle.utf8.specs.Chars.{'*, '/}
 use Rattle.utf8.specs.Utf8.{width_of}
 use Rattle.unicode_xid.specs.Whitespace.{is_whitespace}
 use Rattle.scan.specs.Depth.{walk_depth}
 use Rattle.scan.specs.Seek.{block_comment, line_skip, skip_more}
 use Rattle.scan.specs.Walk.{turn_of, walk}
-use Rattle.scan.specs.declared.Skip.{Skip}
-use Rattle.scan.specs.declared.Skip.TheVariants.{Past}
+use Rattle.scan.specs.Shapes.{Skip}
 use Rattle.scan.specs.declared.Turn.{Turn}
 use Rattle.scan.specs.declared.Turn.TheVariants.{Pass, Stop}
 
@@ -22,7 +21,7 @@ unfoldable pub gap_turn : ℕ → ℕ → List ℕ → ℕ → ℕ → Turn
 gap_turn b c cs at next = cond (eqb c '/) (comment_turn at cs next) (cond (is_whitespace c) (Pass next 0 0) Stop)
 
 abbrev pub gap_last : ℕ → ℕ → ℕ → Skip
-gap_last b at n = Past at n
+gap_last b at n = Ok (at, n)
 
 -- what stands before a token, from a place on
 unfoldable pub gap : List ℕ → ℕ → Skip

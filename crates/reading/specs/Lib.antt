@@ -1,4 +1,5 @@
 -- what a reader must believe, in the order of 01
+pub mod Shapes
 pub mod Answers
 pub mod Gaps
 pub mod Symbols

@@ -1,5 +1,5 @@
 -- What the books are kept in. All of it is read off the text and the delivered tokens; no counter is asked.
-use Rattle.std.specs.Prelude.{◌+◌, ◌-◌, ◌<◌, ℕ, Bool, ◌&&◌, cond, false, true, List, [], ◌++◌, ◌∷◌, ◌≡◌, eqb, drop, length}
+use Rattle.std.specs.Prelude.{◌+◌, ◌-◌, ◌<◌, ℕ, Bool, ◌&&◌, cond, false, true, List, [], ◌++◌, ◌∷◌, ◌≡◌, eqb, drop, length, Ok, Err}
 use Rattle.utf8.specs.Chars.{'!, '#, '[}
 use Rattle.utf8.specs.Utf8.{chars, reach, width_of}
 use Rattle.record.specs.Numbers.{kind_number}
@@ -7,12 +7,10 @@ use Rattle.record.specs.declared.Kind.{Kind}
 use Rattle.record.specs.declared.Token.{Token}
 use Rattle.record.specs.declared.Reading.{Reading}
 use Rattle.scan.specs.IfNext.{if_next}
-use Rattle.scan.specs.declared.Skip.TheVariants.{Past}
 use Rattle.reading.specs.Attribute.{attempt, dropped}
 use Rattle.reading.specs.Blank.{Blank}
 use Rattle.reading.specs.Gaps.{gap}
-use Rattle.reading.specs.declared.Attempt.{Attempt}
-use Rattle.reading.specs.declared.Attempt.TheVariants.{Closed, Failed}
+use Rattle.reading.specs.Shapes.{Attempt}
 
 abbrev pub is_hash : Kind → Bool
 is_hash k = eqb (kind_number k) 34
@@ -22,8 +20,8 @@ is_attribute k = eqb (kind_number k) 53
 
 -- the advances of an attempt that fails
 abbrev pub failed_by : Attempt → ℕ
-failed_by (Closed p m) = 0
-failed_by (Failed p m) = m
+failed_by (Ok (p, m)) = 0
+failed_by (Err (p, m)) = m
 
 -- what the failed attempt at the place o takes, if the characters from there start with a hash and the attempt fails
 unfoldable pub wasted : List ℕ → ℕ → ℕ
@@ -60,9 +58,9 @@ marks (c ∷ cs) = cond (reads_attribute (c ∷ cs)) 1 0 + marks cs
 -- reader passes, then the token's characters ys, at least one, then what is dropped after it, zs (in the old reading one character after an attribute,
 -- if there is one; else none, and in the kept reading always none); and so on; at last a gap.
 pub data Tiled (rd : Reading) (shift : ℕ) : List ℕ → ℕ → List Token → Type 0 where
-  gap-last : {cs : List ℕ} {at : ℕ} → gap cs at ≡ Past (reach cs at) (length cs) → Blank [] cs → Tiled rd shift cs at []
+  gap-last : {cs : List ℕ} {at : ℕ} → gap cs at ≡ Ok (reach cs at, length cs) → Blank [] cs → Tiled rd shift cs at []
   token-next : {cs : List ℕ} {at : ℕ} {t : Token} {ts : List Token} (xs ys zs rest : List ℕ) → cs ≡ xs ++ (ys ++ (zs ++ rest))
-      → gap cs at ≡ Past (reach xs at) (length xs)
+      → gap cs at ≡ Ok (reach xs at, length xs)
       → Blank (ys ++ (zs ++ rest)) xs
       → t.start ≡ reach xs at + shift
       → t.end ≡ reach ys (reach xs at) + shift

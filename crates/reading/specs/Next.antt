@@ -1,11 +1,10 @@
 -- One call (01: "token, error or end"): a gap and then a token, an error or the end. It knows nothing of shift, room or work limit.
-use Rattle.std.specs.Prelude.{◌+◌, ℕ, cond, List, [], ◌∷◌, eqb, drop}
+use Rattle.std.specs.Prelude.{◌+◌, ℕ, cond, List, [], ◌∷◌, eqb, drop, Ok, Err}
 use Rattle.utf8.specs.Chars.{'!, '#, '-, '/, ':, '=, 'at, 'backtick, 'dot, 'dquote, 'quote, 'r, '~}
 use Rattle.utf8.specs.Utf8.{width_of}
 use Rattle.unicode_xid.specs.Identifier.{is_identifier_start}
 use Rattle.record.specs.declared.Reading.{Reading}
-use Rattle.scan.specs.declared.Skip.{Skip}
-use Rattle.scan.specs.declared.Skip.TheVariants.{Lost, Past}
+use Rattle.scan.specs.Shapes.{Skip}
 use Rattle.reading.specs.Answers.{fail, more, told}
 use Rattle.reading.specs.Attribute.{hash}
 use Rattle.reading.specs.Gaps.{gap, gap_depth_of}
@@ -42,8 +41,8 @@ token_or_end rd (c ∷ cs) o = token rd c cs o (o + width_of c)
 
 -- after a gap whose comments go d deep
 abbrev pub next_by : Reading → List ℕ → Skip → ℕ → Call
-next_by rd cs (Past p m) d = told d (more m (token_or_end rd (drop m cs) p))
-next_by rd cs (Lost r p m) d = fail r p m
+next_by rd cs (Ok (p, m)) d = told d (more m (token_or_end rd (drop m cs) p))
+next_by rd cs (Err (r, p, m)) d = fail r p m
 
 unfoldable pub next : Reading → List ℕ → ℕ → Call
 next rd cs at = next_by rd cs (gap cs at) (gap_depth_of cs at)

@@ -1,5 +1,5 @@
 -- Backtick escapes, strings, and what a quote starts.
-use Rattle.std.specs.Prelude.{◌+◌, ℕ, cond, List, [], ◌∷◌, drop}
+use Rattle.std.specs.Prelude.{◌+◌, ℕ, cond, List, [], ◌∷◌, drop, Ok, Err}
 use Rattle.utf8.specs.Chars.{'dquote, 'quote}
 use Rattle.unicode_xid.specs.Identifier.{is_identifier_start}
 use Rattle.record.specs.declared.Code.{Code}
@@ -9,16 +9,15 @@ use Rattle.record.specs.declared.Kind.TheVariants.{CharLiteral, Escape, Lifetime
 use Rattle.scan.specs.IfNext.{if_next}
 use Rattle.scan.specs.Readers.{string_end}
 use Rattle.scan.specs.Seek.{seek}
-use Rattle.scan.specs.declared.Found.{Found}
-use Rattle.scan.specs.declared.Found.TheVariants.{At, Nothing}
+use Rattle.scan.specs.Shapes.{Found}
 use Rattle.scan.specs.declared.Sought.TheVariants.{Backtick, Word}
 use Rattle.reading.specs.Answers.{deliver, refuse}
 use Rattle.reading.specs.declared.Call.{Call}
 
 -- what stands from at to its closing mark is the payload; the opening mark stands at o
 abbrev pub string_or_char_literal : Kind → Code → ℕ → ℕ → Found → Call
-string_or_char_literal kind code o at (At p m) = deliver kind o at p (p + 1) (m + 1)
-string_or_char_literal kind code o at (Nothing p m) = refuse code o p m
+string_or_char_literal kind code o at (Ok (p, m)) = deliver kind o at p (p + 1) (m + 1)
+string_or_char_literal kind code o at (Err (p, m)) = refuse code o p m
 
 -- 01: "Backticks hold an escape, no escaping inside."
 unfoldable pub escape : ℕ → List ℕ → ℕ → Call
@@ -35,8 +34,8 @@ char_literal o cs at = string_or_char_literal CharLiteral UnterminatedCharacterL
 -- 01: "`'` then identifier start: the word; a `'` directly after makes it `CharLiteral`, else `Lifetime`, whose payload includes the quote."
 -- a word after a quote: a quote directly after it makes a literal; else a lifetime, whose payload includes the quote
 abbrev pub lifetime_by : ℕ → List ℕ → ℕ → Found → Call
-lifetime_by o cs at (At p m) = if_next 'quote (drop m cs) (deliver CharLiteral o at p (p + 1) (m + 1)) (deliver Lifetime o o p p m)
-lifetime_by o cs at (Nothing p m) = deliver Lifetime o o p p m
+lifetime_by o cs at (Ok (p, m)) = if_next 'quote (drop m cs) (deliver CharLiteral o at p (p + 1) (m + 1)) (deliver Lifetime o o p p m)
+lifetime_by o cs at (Err (p, m)) = deliver Lifetime o o p p m
 
 unfoldable pub lifetimeish : ℕ → List ℕ → ℕ → Call
 lifetimeish o [] at = refuse UnterminatedCharacterLiteral o at 0

@@ -1,5 +1,5 @@
 -- Places that stepping over characters comes to, and that the closing quote of a regex stands at one.
-use Rattle.std.specs.Prelude.{ℕ, ◌+◌, ◌-◌, ◌<◌, Bool, false, drop}
+use Rattle.std.specs.Prelude.{ℕ, ◌+◌, ◌-◌, ◌<◌, Bool, false, drop, Ok}
 use native.Mathlib.Omega.{arith}
 use Rattle.std.proofs.Math.Bool.{true}
 use mathlib.Core.List.{List, [], ◌∷◌}
@@ -10,8 +10,8 @@ use Rattle.utf8.specs.Picks.{tests}
 use Rattle.utf8.specs.Utf8.{width_of}
 use Rattle.scan.specs.Far.{Far, far_none, one_far, one_more, then}
 use Rattle.scan.specs.Readers.{reg_done, reg_step, regex_end}
+use Rattle.scan.specs.Shapes.{same_ok}
 use Rattle.scan.specs.Until.{until}
-use Rattle.scan.specs.declared.Found.TheVariants.{At}
 
 -- some of the characters cs lead from the place at to the place p
 pub record Reached (cs : List ℕ) (at p : ℕ) : Type 0 where
@@ -66,7 +66,7 @@ module _ (P : ℕ → Type 0) where
       go false false true x y z = let e : at ≡ at + 1 - 1 = omega arith in rw (x, y, z) (rw e at here, wide 34 z refl)
       go false false false x y z = let w : ◌<◌ 0 0 = rw (x, y, z) at l in absurd (omega arith)
 
-  quote_from : (h q m : ℕ) (cs : List ℕ) (st at n : ℕ) → Ahead P cs at → (0 < st → P (at - st)) → until reg_step (reg_done h) st cs at n ≡ At q m → P (q - h)
+  quote_from : (h q m : ℕ) (cs : List ℕ) (st at n : ℕ) → Ahead P cs at → (0 < st → P (at - st)) → until reg_step (reg_done h) st cs at n ≡ Ok (q, m) → P (q - h)
   unfolding until
   quote_from h q m [] st at n a k e = let z : ◌≡◌ {A = ℕ} 0 1 = cc in absurd (omega arith)
   quote_from h q m (c ∷ cs) st at n a k e = go (reg_done h (reg_step st c)) refl (quote_from h q m cs (reg_step st c) (at + width_of c) (n + 1) (ahead_one P cs at c a))
@@ -75,11 +75,11 @@ module _ (P : ℕ → Type 0) where
       mark = quote_step st c at (ahead_here P (c ∷ cs) at a) k
 
       go : (d : Bool) → reg_done h (reg_step st c) ≡ d
-          → ((0 < reg_step st c → P (at + width_of c - reg_step st c)) → until reg_step (reg_done h) (reg_step st c) cs (at + width_of c) (n + 1) ≡ At q m → P (q - h))
+          → ((0 < reg_step st c → P (at + width_of c - reg_step st c)) → until reg_step (reg_done h) (reg_step st c) cs (at + width_of c) (n + 1) ≡ Ok (q, m) → P (q - h))
           → P (q - h)
       go true d f =
-          let u : At at n ≡ At q m = rw (d, until) at e in
-          let y : at ≡ q = cc in
+          let u : Ok (at, n) ≡ Ok (q, m) = rw (d, until) at e in
+          let y : at ≡ q = (same_ok _ _ _ _ u).0 in
           let v : reg_step st c ≡ h + 1 = reg_shut h (reg_step st c) d in
           let z : at + 1 - reg_step st c ≡ q - h = omega arith in
           rw z at (mark (omega arith)).0
@@ -87,5 +87,5 @@ module _ (P : ℕ → Type 0) where
           f (λ l. let g = mark l in let z : at + 1 - reg_step st c ≡ at + width_of c - reg_step st c = omega (arith, g.1) in rw z at g.0)
           (rw (d, until) at e)
 
-  pub regex_quote : (h : ℕ) (cs : List ℕ) (at q m : ℕ) → Ahead P cs at → regex_end h cs at ≡ At q m → P (q - h)
+  pub regex_quote : (h : ℕ) (cs : List ℕ) (at q m : ℕ) → Ahead P cs at → regex_end h cs at ≡ Ok (q, m) → P (q - h)
   regex_quote h cs at q m a e = quote_from h q m cs 0 at 0 a (λ l. absurd (omega arith)) e

@@ -1,6 +1,7 @@
 -- What the code of symbols, quotes and attributes cites: the definitions by the code's own sight of the first character, and a reader after a reader.
-use Rattle.std.specs.Prelude.{◌+◌, ◌-◌, ◌<◌, ◌≤◌, ℕ, cond, List, ◌≡◌, eqb, get_or, length}
-use Rattle.std.proofs.Common.{arith, ◌∙◌, ap, sym}
+use Rattle.std.specs.Prelude.{◌+◌, ◌-◌, ◌<◌, ◌≤◌, ℕ, Bool, ◌||◌, false, cond, List, ◌≡◌, drop, eqb, leb, get_or, length, Ok, Err}
+use Rattle.std.proofs.Common.{arith, ◌∙◌, ap, sym, leb-false}
+use Rattle.std.proofs.lemmas.Bool.{eqb-false}
 use Rattle.utf8.specs.Chars.{'?, '[, '], 'at, 'dquote, 'newline, 'quote}
 use Rattle.utf8.proofs.Laws.{seen}
 use Rattle.utf8.specs.Laws.{Ended, Seen, sight_ascii}
@@ -13,12 +14,11 @@ use Rattle.record.specs.declared.Reading.{Reading}
 use Rattle.scan.specs.Far.{Far, Lands, far_left, far_none, lands}
 use Rattle.scan.specs.IfNext.{if_next}
 use Rattle.scan.specs.Passes.{Balance, Good, seek-at}
+use Rattle.scan.specs.Runs.{neither, run, run-over}
 use Rattle.scan.specs.Seek.{seek}
 use Rattle.scan.specs.Turns.{walk_pass}
 use Rattle.scan.specs.Until.{left}
 use Rattle.scan.specs.Walk.{walk, walk_from}
-use Rattle.scan.specs.declared.Found.TheVariants.{At}
-use Rattle.scan.specs.declared.Skip.TheVariants.{Lost, Past}
 use Rattle.scan.specs.declared.Sought.TheVariants.{Word}
 use Rattle.scan.specs.declared.Turn.{Turn}
 use Rattle.scan.specs.declared.Turn.TheVariants.{Fail, Pass}
@@ -27,7 +27,6 @@ use Rattle.reading.specs.Attribute.{attempt_body, attribute_last, attribute_turn
 use Rattle.reading.specs.Passes.{attribute_sound}
 use Rattle.reading.specs.Quotes.{char_literal, lifetime_by, lifetimeish}
 use Rattle.reading.specs.Symbols.{arrow_code, arrow_look, right_arrow}
-use Rattle.reading.specs.declared.Attempt.TheVariants.{Closed, Failed}
 
 -- an ASCII byte that the body of an attempt only passes
 pub attribute-on : (s : List ℕ) (from at : ℕ) → at < length s → from ≤ at → get_or s at 0 < 0x80 → (get_or s at 0 ≡ '[ → ⊥) → (get_or s at 0 ≡ '] → ⊥) → (get_or s at 0 ≡ 'dquote → ⊥) → (get_or s at 0 ≡ 'newline → ⊥)
@@ -39,6 +38,28 @@ attribute-on s from at l f a h1 h2 h3 h4 b n =
     let z : n + (at - from) + 1 + 0 ≡ n + (at + 1 - from) = omega arith in
     walk_pass attribute_turn attribute_last h b (n + (at - from)) (sym e) (lands 0 s (at + 1) (at + 1) (far_none (left s (at + 1)) (at + 1)))
     ∙ ap (walk_from attribute_turn attribute_last 0 (left s (at + 1)) b (at + 1)) z
+
+-- a byte that the body of an attempt does not only pass
+abbrev pub attribute_stop : ℕ → Bool
+attribute_stop x = (((eqb x '[ || eqb x ']) || eqb x 'dquote) || eqb x 'newline) || leb 128 x
+
+-- a run of the others leaves the walk as it is
+module _ (s : List ℕ) (b : ℕ) where
+  passes : (at n : ℕ) → at < length s → attribute_stop (get_or s at 0) ≡ false
+      → walk_from attribute_turn attribute_last 0 (left s at) b at n ≡ walk_from attribute_turn attribute_last 0 (left s (at + 1)) b (at + 1) (n + 1)
+  passes at n l e =
+      let x = get_or s at 0 in
+      let e4 = neither (((eqb x '[ || eqb x ']) || eqb x 'dquote) || eqb x 'newline) (leb 128 x) e in
+      let e3 = neither ((eqb x '[ || eqb x ']) || eqb x 'dquote) (eqb x 'newline) e4.0 in
+      let e2 = neither (eqb x '[ || eqb x ']) (eqb x 'dquote) e3.0 in
+      let e1 = neither (eqb x '[) (eqb x ']) e2.0 in
+      let u : n + (at - at) ≡ n = omega arith in
+      let v : n + (at + 1 - at) ≡ n + 1 = omega arith in
+      rw (u, v) at (attribute-on s at at l (omega arith) (leb-false _ _ e4.1) (eqb-false _ _ e1.0) (eqb-false _ _ e1.1) (eqb-false _ _ e2.1) (eqb-false _ _ e3.1) b n)
+
+  pub attribute_run_lem : (from to n : ℕ) → to ≡ from + run attribute_stop (drop from s)
+      → walk_from attribute_turn attribute_last 0 (left s to) b to (n + (to - from)) ≡ walk_from attribute_turn attribute_last 0 (left s from) b from n
+  attribute_run_lem = run-over s attribute_stop (λ (at n : ℕ). walk_from attribute_turn attribute_last 0 (left s at) b at n) passes
 
 -- what a turn that passes, or fails, tells
 module _ {x : Turn} {p m : ℕ} where
@@ -64,22 +85,22 @@ module _ (o : ℕ) {s : List ℕ} {at : ℕ} where
 
 module _ (s : List ℕ) (at p m : ℕ) where
   -- after a quote and a word
-  pub lifetime_at : (o : ℕ) → seek Word (left s at) at ≡ At p m
+  pub lifetime_at : (o : ℕ) → seek Word (left s at) at ≡ Ok (p, m)
       → lifetime_by o (left s at) at (seek Word (left s at) at) ≡ if_next 'quote (left s p) (deliver CharLiteral o at p (p + 1) (m + 1)) (deliver Lifetime o o p p m)
   lifetime_at o e = rw (e, far_left s at m p (seek-at (left s at) at p m Word e))
 
   -- after the body of an attempt
-  body_far : walk attribute_turn attribute_last 1 (left s at) at ≡ Past p m → Far (left s at) at m p
+  body_far : walk attribute_turn attribute_last 1 (left s at) at ≡ Ok (p, m) → Far (left s at) at m p
   body_far e = (rw e at (attribute_sound (left s at) at)).is
 
-  pub body_lands : walk attribute_turn attribute_last 1 (left s at) at ≡ Past p m → Lands s at m p
+  pub body_lands : walk attribute_turn attribute_last 1 (left s at) at ≡ Ok (p, m) → Lands s at m p
   body_lands e = lands m s at p (body_far e)
 
-  pub body_at : walk attribute_turn attribute_last 1 (left s at) at ≡ Past p m → attempt_body (left s at) at ≡ if_next '] (left s p) (Closed (p + 1) (m + 1)) (Failed p m)
+  pub body_at : walk attribute_turn attribute_last 1 (left s at) at ≡ Ok (p, m) → attempt_body (left s at) at ≡ if_next '] (left s p) (Ok (p + 1, m + 1)) (Err (p, m))
   unfolding attempt_body
   body_at e = rw (e, far_left s at m p (body_far e))
 
-  pub body_lost : (r : Refusal) → walk attribute_turn attribute_last 1 (left s at) at ≡ Lost r p m → attempt_body (left s at) at ≡ Failed p m
+  pub body_lost : (r : Refusal) → walk attribute_turn attribute_last 1 (left s at) at ≡ Err (r, p, m) → attempt_body (left s at) at ≡ Err (p, m)
   unfolding attempt_body
   body_lost r e = rw e
 

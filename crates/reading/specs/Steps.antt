@@ -1,5 +1,5 @@
 -- What the code will cite: the definitions over the characters from a place, by the code's own sight of the first one.
-use Rattle.std.specs.Prelude.{◌*◌, ◌+◌, ◌-◌, ◌<◌, ◌≤◌, suc, zero, ℕ, Bool, ◌&&◌, ◌||◌, cond, not, ◌≡◌, leb, drop, get_or}
+use Rattle.std.specs.Prelude.{◌*◌, ◌+◌, ◌-◌, ◌<◌, ◌≤◌, suc, zero, ℕ, Bool, ◌&&◌, ◌||◌, cond, not, ◌≡◌, leb, drop, get_or, Ok, Err}
 use Rattle.std.proofs.Common.{add-one, ◌∙◌, ap, drop_of_length-le, drop-cons}
 use native.Mathlib.Omega.{arith}
 use Rattle.std.proofs.Math.Bool.{false, true}
@@ -23,8 +23,6 @@ use Rattle.scan.specs.Seek.{block_comment, line_skip, seek, skip_more}
 use Rattle.scan.specs.Steps.{reg_less}
 use Rattle.scan.specs.Until.{left, until}
 use Rattle.scan.specs.Walk.{turn_of, walk_from}
-use Rattle.scan.specs.declared.Found.TheVariants.{At, Nothing}
-use Rattle.scan.specs.declared.Skip.TheVariants.{Lost, Past}
 use Rattle.scan.specs.declared.Sought.TheVariants.{Hashes, Word}
 use Rattle.scan.specs.declared.Turn.TheVariants.{Fail, Pass, Stop}
 use Rattle.reading.specs.Answers.{fail, more, refuse, told}
@@ -36,8 +34,8 @@ use Rattle.reading.specs.Passes.{gap_good, gap_sound}
 use Rattle.reading.specs.Regex.{hashed, regex_literal, regex_token}
 use Rattle.reading.specs.Symbols.{single, singles, stray}
 use Rattle.reading.specs.Words.{identifierish, spells, word_token}
-use Rattle.reading.specs.declared.Attempt.TheVariants.{Closed}
 use Rattle.reading.specs.declared.Call.{Call}
+use Rattle.scan.specs.Shapes.{same_ok}
 use Rattle.reading.specs.declared.What.TheVariants.{End}
 
 -- a word's letters, one by one
@@ -58,16 +56,16 @@ done_hashes h st e = go (eqb st 0) refl
     go true q = let u : false ≡ true = rw q at e in let z : ◌≡◌ {A = ℕ} 0 1 = cc in absurd (omega arith)
     go false q = let u : eqb (st - 1) h ≡ true = rw q at e in omega (arith, eqb-true (st - 1) h u, eqb-false st 0 q)
 
-pub regex_hashes : (h : ℕ) (cs : List ℕ) (st at n p m : ℕ) → st ≤ n → until reg_step (reg_done h) st cs at n ≡ At p m → h ≤ m
+pub regex_hashes : (h : ℕ) (cs : List ℕ) (st at n p m : ℕ) → st ≤ n → until reg_step (reg_done h) st cs at n ≡ Ok (p, m) → h ≤ m
 unfolding until
 regex_hashes h [] st at n p m l e = let z : ◌≡◌ {A = ℕ} 0 1 = cc in absurd (omega arith)
 regex_hashes h (c ∷ cs) st at n p m l e =
     go (reg_done h (reg_step st c)) refl (regex_hashes h cs (reg_step st c) (at + width_of c) (n + 1) p m (omega (arith, reg_less st c)))
   where
-    go : (d : Bool) → reg_done h (reg_step st c) ≡ d → (until reg_step (reg_done h) (reg_step st c) cs (at + width_of c) (n + 1) ≡ At p m → h ≤ m) → h ≤ m
+    go : (d : Bool) → reg_done h (reg_step st c) ≡ d → (until reg_step (reg_done h) (reg_step st c) cs (at + width_of c) (n + 1) ≡ Ok (p, m) → h ≤ m) → h ≤ m
     go true q f =
-        let u : At at n ≡ At p m = rw (q, until) at e in
-        let r : n ≡ m = cc in
+        let u : Ok (at, n) ≡ Ok (p, m) = rw (q, until) at e in
+        let r : n ≡ m = (same_ok _ _ _ _ u).1 in
         omega (arith, reg_less st c, done_hashes h (reg_step st c) q)
     go false q f = f (rw (q, until) at e)
 
@@ -160,34 +158,34 @@ module _ (rd : Reading) where
 
   -- a reader, and then another at the place that it came to
   module _ (s : List ℕ) (at p m : ℕ) where
-    pub next-gap : gap (left s at) at ≡ Past p m → next rd (left s at) at ≡ told (gap_depth_of (left s at) at) (more m (token_or_end rd (left s p) p))
+    pub next-gap : gap (left s at) at ≡ Ok (p, m) → next rd (left s at) at ≡ told (gap_depth_of (left s at) at) (more m (token_or_end rd (left s p) p))
     unfolding next
     next-gap e =
         let f : Far (left s at) at m p = (rw e at (gap_sound (left s at) at)).is in
         rw (e, far_left s at m p f)
 
-    pub next_lost : (r : Refusal) → gap (left s at) at ≡ Lost r p m → next rd (left s at) at ≡ fail r p m
+    pub next_lost : (r : Refusal) → gap (left s at) at ≡ Err (r, p, m) → next rd (left s at) at ≡ fail r p m
     unfolding next
     next_lost r e = rw e
 
     module _ (whole : List ℕ) (o : ℕ) where
-      pub word_at : seek Word (left s at) at ≡ At p m → identifierish rd whole o (left s at) at ≡ more m (word_token rd whole o (left s p) p)
+      pub word_at : seek Word (left s at) at ≡ Ok (p, m) → identifierish rd whole o (left s at) at ≡ more m (word_token rd whole o (left s p) p)
       unfolding identifierish
       word_at e = rw (e, far_left s at m p (seek-at (left s at) at p m Word e))
 
-      pub word_none : seek Word (left s at) at ≡ Nothing p m → identifierish rd whole o (left s at) at ≡ more m (word_token rd whole o (left s p) p)
+      pub word_none : seek Word (left s at) at ≡ Err (p, m) → identifierish rd whole o (left s at) at ≡ more m (word_token rd whole o (left s p) p)
       unfolding identifierish
       word_none e = rw (e, far_left s at m p (seek-none (left s at) at p m Word e))
 
-      pub regex_at : seek Hashes (left s at) at ≡ At p m → regex_literal rd whole o (left s at) at ≡ more m (hashed rd whole o m (left s p) p)
+      pub regex_at : seek Hashes (left s at) at ≡ Ok (p, m) → regex_literal rd whole o (left s at) at ≡ more m (hashed rd whole o m (left s p) p)
       unfolding regex_literal
       regex_at e = rw (e, far_left s at m p (seek-at (left s at) at p m Hashes e))
 
-      pub regex_never : seek Hashes (left s at) at ≡ Nothing p m → regex_literal rd whole o (left s at) at ≡ refuse UnterminatedStringLiteral o p m
+      pub regex_never : seek Hashes (left s at) at ≡ Err (p, m) → regex_literal rd whole o (left s at) at ≡ refuse UnterminatedStringLiteral o p m
       unfolding regex_literal
       regex_never e = rw e
 
-    pub hash-closed : (o : ℕ) → attempt (left s at) at ≡ Closed p m → hash rd o (left s at) at ≡ more m (attribute_token rd o (left s p) p)
+    pub hash-closed : (o : ℕ) → attempt (left s at) at ≡ Ok (p, m) → hash rd o (left s at) at ≡ more m (attribute_token rd o (left s p) p)
     unfolding hash
     hash-closed o e =
         let f : Far (left s at) at m p = (rw e at (attempt_tried (left s at) at)).is in

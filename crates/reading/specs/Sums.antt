@@ -1,5 +1,5 @@
 -- Laws of what the books are kept in: places and counts of characters, hashes, failed attempts.
-use Rattle.std.specs.Prelude.{◌*◌, ◌+◌, ◌-◌, ◌≤◌, suc, zero, ℕ, Bool, ◌&&◌, cond, false, true, List, [], ◌∷◌, ◌≡◌, refl, eqb, drop, length, take}
+use Rattle.std.specs.Prelude.{◌*◌, ◌+◌, ◌-◌, ◌≤◌, suc, zero, ℕ, Bool, ◌&&◌, cond, false, true, List, [], ◌∷◌, ◌≡◌, refl, eqb, drop, length, take, Ok, Err}
 use Rattle.std.proofs.Common.{arith, ◌∙◌, ap, length-take-le}
 use Rattle.std.proofs.Math.Seq.{take-length}
 use Rattle.utf8.specs.Utf8.{reach, width_of}
@@ -8,8 +8,7 @@ use Rattle.scan.specs.IfNext.{if_next}
 use Rattle.reading.specs.Attribute.{attempt, attempt_body, attempt_bracket, attempt_more}
 use Rattle.reading.specs.CallLaw.{Tried, attempt_tried}
 use Rattle.reading.specs.Measures.{failed_by, hashes, marks, reads_attribute, wasted}
-use Rattle.reading.specs.declared.Attempt.{Attempt}
-use Rattle.reading.specs.declared.Attempt.TheVariants.{Closed, Failed}
+use Rattle.reading.specs.Shapes.{Attempt}
 
 -- the place after m characters is where those characters reach
 after-reach : (m : ℕ) (cs : List ℕ) (at : ℕ) → after m cs at ≡ reach (take m cs) at
@@ -70,19 +69,19 @@ weight_is n (c ∷ cs) = go (eqb c 35) (if_next 33 cs (if_next 91 (drop 1 cs) tr
 
 -- a failed attempt takes no more than that
 failed-le : (cs : List ℕ) (at : ℕ) (x : Attempt) → Tried cs at x → failed_by x ≤ length cs
-failed-le cs at (Closed p m) h = omega arith
-failed-le cs at (Failed p m) h = h.is.within
+failed-le cs at (Ok (p, m)) h = omega arith
+failed-le cs at (Err (p, m)) h = h.is.within
 
 failed-more : (x : Attempt) → failed_by (attempt_more 1 x) ≤ 1 + failed_by x
-failed-more (Closed p m) = omega arith
-failed-more (Failed p m) = omega arith
+failed-more (Ok (p, m)) = omega arith
+failed-more (Err (p, m)) = omega arith
 
 short_bracket : (cs : List ℕ) (at : ℕ) → if_next 91 cs true false ≡ false → failed_by (attempt_bracket cs at) ≤ 1
 unfolding attempt_bracket if_next
 short_bracket [] at e = omega arith
 short_bracket (c ∷ cs) at e = go (eqb c 91) refl
   where
-    go : (t : Bool) → eqb c 91 ≡ t → failed_by (cond (eqb c 91) (attempt_more 1 (attempt_body cs (at + width_of c))) (Failed (at + width_of c) 1)) ≤ 1
+    go : (t : Bool) → eqb c 91 ≡ t → failed_by (cond (eqb c 91) (attempt_more 1 (attempt_body cs (at + width_of c))) (Err (at + width_of c, 1))) ≤ 1
     go true q = let z : true ≡ false = rw q at e in let w : ◌≡◌ {A = ℕ} 0 1 = cc in absurd (omega arith)
     go false q = rw q (omega arith)
 
@@ -91,7 +90,7 @@ unfolding attempt if_next
 short-attempt [] at e = omega arith
 short-attempt (c ∷ cs) at e = go (eqb c 33) refl
   where
-    go : (t : Bool) → eqb c 33 ≡ t → failed_by (cond (eqb c 33) (attempt_more 1 (attempt_bracket cs (at + width_of c))) (Failed (at + width_of c) 1)) ≤ 2
+    go : (t : Bool) → eqb c 33 ≡ t → failed_by (cond (eqb c 33) (attempt_more 1 (attempt_bracket cs (at + width_of c))) (Err (at + width_of c, 1))) ≤ 2
     go true q =
         let h = short_bracket cs (at + width_of c) (rw q at e) in
         let g = failed-more (attempt_bracket cs (at + width_of c)) in

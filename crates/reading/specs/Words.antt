@@ -1,5 +1,5 @@
 -- Words. 01: "Words: _, use, thirteen keywords, else MacroId if < follows at once, else Id. A keyword before < stays a keyword."
-use Rattle.std.specs.Prelude.{◌+◌, ℕ, Bool, ◌&&◌, cond, false, List, [], ◌∷◌, eqb, drop}
+use Rattle.std.specs.Prelude.{◌+◌, ℕ, Bool, ◌&&◌, cond, false, List, [], ◌∷◌, eqb, drop, Ok, Err}
 use Rattle.utf8.specs.Chars.{'#, '<, 'a, 'b, 'c, 'd, 'e, 'f, 'g, 'h, 'i, 'l, 'm, 'n, 'o, 'p, 'r, 's, 't, 'u, 'underscore, 'w, 'x, 'y}
 use Rattle.utf8.specs.Utf8.{width_of}
 use Rattle.record.specs.declared.Kind.{Kind}
@@ -7,10 +7,8 @@ use Rattle.record.specs.declared.Kind.TheVariants.{Dyn, Else, Enum, Extern, For,
 use Rattle.record.specs.declared.Reading.{Reading}
 use Rattle.scan.specs.IfNext.{if_next}
 use Rattle.scan.specs.Seek.{seek}
-use Rattle.scan.specs.declared.Found.{Found}
-use Rattle.scan.specs.declared.Found.TheVariants.{At, Nothing}
-use Rattle.scan.specs.declared.Skip.{Skip}
-use Rattle.scan.specs.declared.Skip.TheVariants.{Lost, Past}
+use Rattle.scan.specs.Shapes.{Found}
+use Rattle.scan.specs.Shapes.{Skip}
 use Rattle.scan.specs.declared.Sought.TheVariants.{Word}
 use Rattle.code.specs.Code.{code_depth_of, code_end}
 use Rattle.reading.specs.Answers.{coded, deliver, fail, more, plain}
@@ -44,8 +42,8 @@ keywords =
 -- "use, => and =>? take code": a token with code from the place from on, up to where the code ends
 -- and whose comments go d deep
 abbrev pub code_token : Kind → ℕ → ℕ → Skip → ℕ → Call
-code_token kind o from (Past p m) d = coded d (deliver kind o from p p m)
-code_token kind o from (Lost r p m) d = fail r p m
+code_token kind o from (Ok (p, m)) d = coded d (deliver kind o from p p m)
+code_token kind o from (Err (r, p, m)) d = fail r p m
 
 unfoldable pub use_token : Reading → ℕ → List ℕ → ℕ → Call
 use_token rd o rest p = code_token Use o p (code_end rd o rest p) (code_depth_of rd rest p)
@@ -68,8 +66,8 @@ word_token rd cs o rest p =
 
 -- the rest of a word that starts at o, where the characters whole stand; the characters cs stand at at
 abbrev pub identifier_by : Reading → List ℕ → ℕ → List ℕ → Found → Call
-identifier_by rd whole o cs (At p m) = more m (word_token rd whole o (drop m cs) p)
-identifier_by rd whole o cs (Nothing p m) = more m (word_token rd whole o (drop m cs) p)
+identifier_by rd whole o cs (Ok (p, m)) = more m (word_token rd whole o (drop m cs) p)
+identifier_by rd whole o cs (Err (p, m)) = more m (word_token rd whole o (drop m cs) p)
 
 unfoldable pub identifierish : Reading → List ℕ → ℕ → List ℕ → ℕ → Call
 identifierish rd whole o cs at = identifier_by rd whole o cs (seek Word cs at)

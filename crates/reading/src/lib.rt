@@ -7,11 +7,7 @@ ghost use Rattle.reading.specs.Answers.{deliver, fail, plain, refuse};
 use record::{Code, Kind, Reading, Refusal, Token};
 
 // An attribute attempt: closed, with the place after `]` and the characters passed; or failed, with the place that it got to and the advances that it took.
-#[derive(Clone, Copy)]
-pub enum Attempt {
-    Closed(usize, usize),
-    Failed(usize, usize),
-}
+pub type Attempt = Result<(usize, usize), (usize, usize)>;
 
 // What a call answers.
 #[derive(Clone, Copy)]

@@ -1,15 +1,11 @@
 -- WHICH CODES A PART ANSWERS: what all parts need to say it, and the checks' own.
-use Rattle.std.specs.Prelude.{ℕ, Bool, ◌&&◌, ◌||◌, cond, false, not, true, List, [], ◌∷◌, ◌≡◌, refl, eqb}
+use Rattle.std.specs.Prelude.{ℕ, Bool, ◌&&◌, ◌||◌, cond, false, not, true, List, [], ◌∷◌, ◌≡◌, refl, eqb, Result, Ok, Err}
 use Rattle.std.proofs.Common.{arith, sym, eqb-true}
 use Rattle.utf8.specs.Laws.{both}
 use Rattle.utf8.specs.Picks.{by_test}
-use Rattle.utf8.specs.declared.Utf8.{Utf8}
-use Rattle.utf8.specs.declared.Utf8.TheVariants.{Bad, Valid}
 use Rattle.record.specs.Checks.{check_utf8, checks}
 use Rattle.record.specs.Numbers.{code_number}
 use Rattle.record.specs.Records.{refusal}
-use Rattle.record.specs.declared.Checked.{Checked}
-use Rattle.record.specs.declared.Checked.TheVariants.{Passed, Refused}
 use Rattle.record.specs.declared.Code.{Code}
 use Rattle.record.specs.declared.Code.TheVariants.{NotUtf8, ShiftTooLarge, TooLong}
 use Rattle.record.specs.declared.Refusal.{Refusal}
@@ -52,25 +48,25 @@ pub none_of : (ms ns : List ℕ) → Apart ms ns → (c : Code) → OneOf ms c �
 none_of ms ns a c h = not-true _ (one_of (λ n. not (among n ns)) (code_number c) ms a h)
 
 -- ---- a check of one test refuses for one reason
-pub refused_for : (t : Bool) (q r : Refusal) → cond t Passed (Refused q) ≡ Refused r → r.code ≡ q.code
+pub refused_for : (t : Bool) (q r : Refusal) → cond {A = Result Unit Refusal} t (Ok tt) (Err q) ≡ Err r → r.code ≡ q.code
 refused_for true q r e = let w : ◌≡◌ {A = ℕ} 0 1 = cc in absurd (omega arith)
 refused_for false q r e = cc
 
 -- ---- the checks refuse for 12, 13 and 11: what holds of these codes holds of every refusal of theirs
-abbrev pub RefusesIn : (Code → Type 0) → Checked → Type 0
-RefusesIn Q Passed = Unit {0}
-RefusesIn Q (Refused r) = Q r.code
+abbrev pub RefusesIn : (Code → Type 0) → Result Unit Refusal → Type 0
+RefusesIn Q (Ok tt) = Unit {0}
+RefusesIn Q (Err r) = Q r.code
 
-pub record Refuses (Q : Code → Type 0) (x : Checked) : Type 0 where
+pub record Refuses (Q : Code → Type 0) (x : Result Unit Refusal) : Type 0 where
   pub is : RefusesIn Q x
 
 module _ (Q : Code → Type 0) where
-  refuses_stop : (code : Code) (place : ℕ) → Q code → Refuses Q (Refused (refusal code place))
+  refuses_stop : (code : Code) (place : ℕ) → Q code → Refuses Q (Err (refusal code place))
   refuses_stop code place e = record { is = e }
 
-  refuses_text : (shift : ℕ) (v : Utf8) → Q NotUtf8 → Refuses Q (check_utf8 shift v)
-  refuses_text shift Valid e = record { is = tt }
-  refuses_text shift (Bad p) e = record { is = e }
+  refuses_text : (shift : ℕ) (v : Result Unit ℕ) → Q NotUtf8 → Refuses Q (check_utf8 shift v)
+  refuses_text shift (Ok tt) e = record { is = tt }
+  refuses_text shift (Err p) e = record { is = e }
 
   pub checks-refuse : Q TooLong → Q ShiftTooLarge → Q NotUtf8 → (s : List ℕ) (shift : ℕ) → Refuses Q (checks s shift)
   unfolding checks

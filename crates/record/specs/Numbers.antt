@@ -1,10 +1,8 @@
 -- 01: "Kinds number 0 to 53 in the order of the `Tok` enum, the dummies absent"; refusals number 1 to 20 as in its table,
 -- and 21 to 29 as in document 02's.
-use Rattle.std.specs.Prelude.{◌≡◌, refl, cond, List, [], ◌∷◌, ℕ, ◌-◌, ltb, get_or}
+use Rattle.std.specs.Prelude.{◌≡◌, refl, cond, List, [], ◌∷◌, ℕ, ◌-◌, ltb, get_or, Option, Some, None}
 use Rattle.record.specs.declared.Kind.{Kind}
 use Rattle.record.specs.declared.Kind.TheVariants.{Enum, Extern, Grammar, Match, Else, If, Mut, Pub, In, «Type», Where, For, Dyn, Use, Escape, Id, MacroId, Lifetime, StringLiteral, CharLiteral, RegexLiteral, Ampersand, BangEquals, BangTilde, Colon, ColonColon, Comma, DotDot, Equals, EqualsEquals, EqualsGreaterThanCode, EqualsGreaterThanQuestionCode, EqualsGreaterThanLookahead, EqualsGreaterThanLookbehind, Hash, GreaterThan, LeftBrace, LeftBracket, LeftParen, LessThan, Lookahead, Lookbehind, MinusGreaterThan, Plus, Question, RightBrace, RightBracket, RightParen, Semi, Star, TildeTilde, Underscore, Bang, ShebangAttribute}
-use Rattle.record.specs.declared.Known.{Known}
-use Rattle.record.specs.declared.Known.TheVariants.{Kind as AKind, Nothing}
 use Rattle.record.specs.declared.Code.{Code}
 use Rattle.record.specs.declared.Code.TheVariants.{UnrecognizedToken, UnterminatedEscape, UnterminatedAsciiEscape, UnrecognizedEscape, UnterminatedStringLiteral, UnterminatedCharacterLiteral, UnterminatedAttribute, UnterminatedCode, ExpectedStringLiteral, UnterminatedBlockComment, NotUtf8, TooLong, ShiftTooLarge, NoRoom, WorkLimit, TrailingBackslash, BadMark, UnknownVersion, BadLength, BadRecord, SheetFull, HalfSymbol, StrayCharacter, UnknownReading, TooDeep, TextMismatch, ChangeListFull, BadEdit, StaleRecords}
 
@@ -114,15 +112,15 @@ codes =
     ChangeListFull ∷ BadEdit ∷ StaleRecords ∷ []
 
 -- the kind that has a number
-unfoldable pub kind_of : ℕ → Known
-kind_of n = cond (ltb n 54) (AKind (get_or kinds n Enum)) Nothing
+unfoldable pub kind_of : ℕ → Option Kind
+kind_of n = cond (ltb n 54) (Some (get_or kinds n Enum)) None
 
 -- the refusal that has a number, and the last one for every other number
 unfoldable pub code_of : ℕ → Code
 code_of n = get_or codes (n - 1) BadRecord
 
 -- each kind is the one that its number names: so no two kinds have one number
-pub kind_again : (k : Kind) → kind_of (kind_number k) ≡ AKind k
+pub kind_again : (k : Kind) → kind_of (kind_number k) ≡ Some k
 unfolding kind_of kinds
 kind_again Enum = refl
 kind_again Extern = refl

@@ -8,8 +8,6 @@ ghost use Rattle.record.specs.Checks.{checks};
 ghost use Rattle.record.specs.Readings.{reading_of};
 ghost use Rattle.record.specs.Rust.{rust_number};
 
-use utf8::Utf8;
-
 // The kinds of token, in the order of the Rust's `Tok`.
 #[derive(Clone, Copy)]
 pub enum Kind {
@@ -111,27 +109,14 @@ pub enum Reading {
     Kept,
 }
 
-// The reading that has a number, if there is one.
-#[derive(Clone, Copy)]
-pub enum Chosen {
-    Reading(Reading),
-    Nothing,
-}
-
 #[derive(Clone, Copy)]
 pub struct Refusal {
     pub code: Code,
     pub place: u64,
 }
 
-// What a record tells besides, or that it is not known: so in a record that was read from a file.
-#[derive(Clone, Copy)]
-pub enum Told {
-    Is(u64),
-    Unknown,
-}
-
-// A token: its kind, its places, and the greatest depth of the block comments in the gap before it and in its code.
+// A token: its kind, its places, and the greatest depth of the block comments in the gap before it and in its code, where that is known:
+// a record that was read from a file doesn't tell it.
 #[derive(Clone, Copy)]
 pub struct Token {
     pub kind: Kind,
@@ -139,22 +124,8 @@ pub struct Token {
     pub end: u64,
     pub payload_start: u64,
     pub payload_end: u64,
-    pub gap_depth: Told,
-    pub code_depth: Told,
-}
-
-// The kind that has a number, if there is one.
-#[derive(Clone, Copy)]
-pub enum Known {
-    Kind(Kind),
-    Nothing,
-}
-
-// Whether a text may be read with a shift.
-#[derive(Clone, Copy)]
-pub enum Checked {
-    Passed,
-    Refused(Refusal),
+    pub gap_depth: Option<u64>,
+    pub code_depth: Option<u64>,
 }
 
 pub const TEXT_LIMIT: usize = 2147483647;
@@ -163,37 +134,7 @@ pub const TEXT_LIMIT: usize = 2147483647;
 pub fn code_number(c: Code) -> u8
     ensures { result ≡ code_number c }
 {
-    match c {
-        Code::UnrecognizedToken => 1,
-        Code::UnterminatedEscape => 2,
-        Code::UnterminatedAsciiEscape => 3,
-        Code::UnrecognizedEscape => 4,
-        Code::UnterminatedStringLiteral => 5,
-        Code::UnterminatedCharacterLiteral => 6,
-        Code::UnterminatedAttribute => 7,
-        Code::UnterminatedCode => 8,
-        Code::ExpectedStringLiteral => 9,
-        Code::UnterminatedBlockComment => 10,
-        Code::NotUtf8 => 11,
-        Code::TooLong => 12,
-        Code::ShiftTooLarge => 13,
-        Code::NoRoom => 14,
-        Code::WorkLimit => 15,
-        Code::TrailingBackslash => 16,
-        Code::BadMark => 17,
-        Code::UnknownVersion => 18,
-        Code::BadLength => 19,
-        Code::BadRecord => 20,
-        Code::SheetFull => 21,
-        Code::HalfSymbol => 22,
-        Code::StrayCharacter => 23,
-        Code::UnknownReading => 24,
-        Code::TooDeep => 25,
-        Code::TextMismatch => 26,
-        Code::ChangeListFull => 27,
-        Code::BadEdit => 28,
-        Code::StaleRecords => 29,
-    }
+    c as u8 + 1
 }
 
 // The number that the Rust has for a refusal's: its one code became two.
@@ -210,62 +151,7 @@ pub fn rust_number(n: u8) -> u8
 pub fn kind_number(k: Kind) -> u8
     ensures { result ≡ kind_number k }
 {
-    match k {
-        Kind::Enum => 0,
-        Kind::Extern => 1,
-        Kind::Grammar => 2,
-        Kind::Match => 3,
-        Kind::Else => 4,
-        Kind::If => 5,
-        Kind::Mut => 6,
-        Kind::Pub => 7,
-        Kind::In => 8,
-        Kind::Type => 9,
-        Kind::Where => 10,
-        Kind::For => 11,
-        Kind::Dyn => 12,
-        Kind::Use => 13,
-        Kind::Escape => 14,
-        Kind::Id => 15,
-        Kind::MacroId => 16,
-        Kind::Lifetime => 17,
-        Kind::StringLiteral => 18,
-        Kind::CharLiteral => 19,
-        Kind::RegexLiteral => 20,
-        Kind::Ampersand => 21,
-        Kind::BangEquals => 22,
-        Kind::BangTilde => 23,
-        Kind::Colon => 24,
-        Kind::ColonColon => 25,
-        Kind::Comma => 26,
-        Kind::DotDot => 27,
-        Kind::Equals => 28,
-        Kind::EqualsEquals => 29,
-        Kind::EqualsGreaterThanCode => 30,
-        Kind::EqualsGreaterThanQuestionCode => 31,
-        Kind::EqualsGreaterThanLookahead => 32,
-        Kind::EqualsGreaterThanLookbehind => 33,
-        Kind::Hash => 34,
-        Kind::GreaterThan => 35,
-        Kind::LeftBrace => 36,
-        Kind::LeftBracket => 37,
-        Kind::LeftParen => 38,
-        Kind::LessThan => 39,
-        Kind::Lookahead => 40,
-        Kind::Lookbehind => 41,
-        Kind::MinusGreaterThan => 42,
-        Kind::Plus => 43,
-        Kind::Question => 44,
-        Kind::RightBrace => 45,
-        Kind::RightBracket => 46,
-        Kind::RightParen => 47,
-        Kind::Semi => 48,
-        Kind::Star => 49,
-        Kind::TildeTilde => 50,
-        Kind::Underscore => 51,
-        Kind::Bang => 52,
-        Kind::ShebangAttribute => 53,
-    }
+    k as u8
 }
 
 const KINDS: [Kind; 54] = [
@@ -326,38 +212,31 @@ const KINDS: [Kind; 54] = [
 ];
 
 // The kind of a number.
-pub fn kind_of(n: u8) -> Known
+pub fn kind_of(n: u8) -> Option<Kind>
     ensures { result ≡ kind_of n }
 {
     if 54 <= n {
-        return Known::Nothing;
+        return None;
     }
-    let i = n as usize;
-    let k = KINDS[i];
-    Known::Kind(k)
+    Some(KINDS[n as usize])
 }
 
 // The reading of a number.
-pub fn reading_of(n: u64) -> Chosen
+pub fn reading_of(n: u64) -> Option<Reading>
     ensures { result ≡ reading_of n }
 {
-    if n == 0 {
-        return Chosen::Reading(Reading::Old);
+    match n {
+        0 => Some(Reading::Old),
+        1 => Some(Reading::Kept),
+        _ => None,
     }
-    if n == 1 {
-        return Chosen::Reading(Reading::Kept);
-    }
-    Chosen::Nothing
 }
 
 // The number for what is told: the highest of all where it is not known.
-pub fn told_number(t: Told) -> u64
+pub fn told_number(t: Option<u64>) -> u64
     ensures { result ≡ told_number t }
 {
-    match t {
-        Told::Is(n) => n,
-        Told::Unknown => 18446744073709551615,
-    }
+    t.unwrap_or(u64::MAX)
 }
 
 // A token's record, without what only a run can tell. The reading makes it here and nowhere else.
@@ -370,30 +249,30 @@ pub fn token_of(kind: Kind, start: u64, end: u64, from: u64, to: u64) -> Token
         end,
         payload_start: from,
         payload_end: to,
-        gap_depth: Told::Unknown,
-        code_depth: Told::Unknown,
+        gap_depth: None,
+        code_depth: None,
     }
 }
 
 // The checks before any reading, in their order: 12, 13, 11.
-pub fn checks(text: &[u8], shift: u64) -> Checked
+pub fn checks(text: &[u8], shift: u64) -> Result<(), Refusal>
     ensures { result ≡ checks text.now shift }
 {
     if TEXT_LIMIT < text.len() {
-        return Checked::Refused(Refusal {
+        return Err(Refusal {
             code: Code::TooLong,
             place: 0,
         });
     }
-    if 18446744073709551615 - shift < (text.len() as u64) {
-        return Checked::Refused(Refusal {
+    if u64::MAX - shift < (text.len() as u64) {
+        return Err(Refusal {
             code: Code::ShiftTooLarge,
             place: 0,
         });
     }
     match utf8::check(text) {
-        Utf8::Valid => Checked::Passed,
-        Utf8::Bad(place) => Checked::Refused(Refusal {
+        Ok(()) => Ok(()),
+        Err(place) => Err(Refusal {
             code: Code::NotUtf8,
             place: (place as u64) + shift,
         }),

@@ -18,86 +18,94 @@ mod file;
 mod say;
 mod sums;
 
-use say::Case;
+use say::{Case, Form, Kind};
 
 // The most bytes of a case, and the most numbers.
 const BYTES: usize = 65536;
 
 const NUMBERS: usize = 20006;
 
-// What is found of a case, or of a part of the file: whether it is whole, and whether it is answered as it is recorded.
+// A part of the file: so many cases of one kind.
 #[derive(Clone, Copy)]
-pub struct Found {
-    pub whole: bool,
-    pub same: bool,
+struct Cases {
+    kind: Kind,
+    planted: bool,
+    count: u64,
 }
 
 fn main(rt: HostRuntime) {
     let mut bytes = [0u8; 64];
     let mut numbers = [0u64; 4];
-    let head = file::next(&rt, &mut bytes, &mut numbers);
-    let b = head.bytes;
-    if file::is_mark(&bytes[0..b]) & (head.numbers == 4) {
-        all(&rt, numbers[0], numbers[1], numbers[2], numbers[3]);
+    if is_head(&rt, &mut bytes, &mut numbers) {
+        let _ = all(&rt, numbers);
         return;
     }
     file::is_end(&rt);
     say::say(&rt, b"the head is not that of a file of cases\n");
 }
 
-// The four parts of the file, after its head.
-fn all(rt: &HostRuntime, texts: u64, expansions: u64, planted_texts: u64, planted_expansions: u64) {
-    let mut page = sums::empty_row();
-    let mut row = sums::empty_row();
-    let a = part(rt, true, false, true, texts, &mut page, &mut row);
-    let sums = sums::compare(rt, a.same, &mut page, &row);
-    let b = part(rt, a.whole, false, false, expansions, &mut page, &mut row);
-    let c = part(rt, b.whole, true, true, planted_texts, &mut page, &mut row);
-    let d = part(
-        rt,
-        c.whole,
-        true,
-        false,
-        planted_expansions,
-        &mut page,
-        &mut row,
-    );
-    if d.whole {
-        finish(rt, texts, expansions, a.same & b.same & sums);
+// Whether the first case is the head, with its four numbers.
+fn is_head(rt: &HostRuntime, bytes: &mut [u8], numbers: &mut [u64]) -> bool {
+    match file::next(rt, bytes, numbers) {
+        Some(head) => file::is_mark(&bytes[..head.bytes]) & (head.numbers == 4),
+        None => false,
     }
 }
 
-// A part of the file, where it is whole so far: so many cases of one kind. Of the ordinary ones the first that differs is said. Page and row are the sheet
-// that the ordinary texts are on, and the sums of their recorded answers.
-fn part(
-    rt: &HostRuntime,
-    whole: bool,
-    planted: bool,
-    is_text: bool,
-    count: u64,
-    page: &mut [u64],
-    row: &mut [u64],
-) -> Found {
-    let mut found = Found { whole, same: true };
-    for i in 0..count {
-        if !found.whole {
-            return found;
-        }
-        let same = found.same;
-        found = one(
-            rt,
-            Case {
-                planted,
-                said: planted | same,
-                is_text,
-                index: i,
-            },
-            page,
-            row,
-        );
-        found.same = found.same & same;
+// The four parts of the file, after its head; none where one is not whole.
+fn all(rt: &HostRuntime, counts: [u64; 4]) -> Option<()> {
+    let [texts, expansions, planted_texts, planted_expansions] = counts;
+    let mut page = sums::empty_row();
+    let mut row = sums::empty_row();
+    let a = part(rt, ordinary(Kind::Text, texts), &mut page, &mut row)?;
+    let sums = sums::compare(rt, a, &mut page, &row);
+    let b = part(
+        rt,
+        ordinary(Kind::Expansion, expansions),
+        &mut page,
+        &mut row,
+    )?;
+    part(rt, planted(Kind::Text, planted_texts), &mut page, &mut row)?;
+    part(
+        rt,
+        planted(Kind::Expansion, planted_expansions),
+        &mut page,
+        &mut row,
+    )?;
+    finish(rt, texts, expansions, a & b & sums);
+    Some(())
+}
+
+fn ordinary(kind: Kind, count: u64) -> Cases {
+    Cases {
+        kind,
+        planted: false,
+        count,
     }
-    found
+}
+
+fn planted(kind: Kind, count: u64) -> Cases {
+    Cases {
+        kind,
+        planted: true,
+        count,
+    }
+}
+
+// Whether the cases of a part answer as they are recorded; none where one is not whole. Of the ordinary ones the first that differs is said. Page and row
+// are the sheet that the ordinary texts are on, and the sums of their recorded answers.
+fn part(rt: &HostRuntime, p: Cases, page: &mut [u64], row: &mut [u64]) -> Option<bool> {
+    let mut same = true;
+    for index in 0..p.count {
+        let case = Case {
+            kind: p.kind,
+            planted: p.planted,
+            said: p.planted | same,
+            index,
+        };
+        same &= one(rt, case, page, row)?;
+    }
+    Some(same)
 }
 
 // The file has to end here.
@@ -115,26 +123,19 @@ fn finish(rt: &HostRuntime, texts: u64, expansions: u64, same: bool) {
     }
 }
 
-// The next case of the file.
-fn one(rt: &HostRuntime, c: Case, page: &mut [u64], row: &mut [u64]) -> Found {
+// Whether the next case of the file answers as it is recorded; none where it is not whole.
+fn one(rt: &HostRuntime, c: Case, page: &mut [u64], row: &mut [u64]) -> Option<bool> {
     let mut bytes = [0u8; BYTES];
     let mut numbers = [0u64; NUMBERS];
-    let read = file::next(rt, &mut bytes, &mut numbers);
-    let b = read.bytes;
-    let n = read.numbers;
-    if n == 0 {
+    let Some(read) = file::next(rt, &mut bytes, &mut numbers) else {
         file::is_end(rt);
         say::not_whole(rt, c);
-        return Found {
-            whole: false,
-            same: false,
-        };
-    }
-    let sums = counted(rt, c, &bytes[0..b], &numbers[0..n], page, row);
-    Found {
-        whole: true,
-        same: !differs(rt, c, &bytes[0..b], &numbers[0..n]) & sums,
-    }
+        return None;
+    };
+    let text = &bytes[..read.bytes];
+    let recorded = &numbers[..read.numbers];
+    let sums = counted(rt, c, text, recorded, page, row);
+    Some(!differs(rt, c, text, recorded) & sums)
 }
 
 // An ordinary text is taken on the sheet; whether no sheet differed.
@@ -146,43 +147,43 @@ fn counted(
     page: &mut [u64],
     row: &mut [u64],
 ) -> bool {
-    if c.is_text & !c.planted {
-        return sums::add(rt, c.said, text, numbers, page, row);
+    match c.kind {
+        Kind::Text if !c.planted => sums::add(rt, c.said, text, numbers, page, row),
+        Kind::Text | Kind::Expansion => true,
     }
-    true
 }
 
 // Whether any form of a case answers otherwise than is recorded.
 fn differs(rt: &HostRuntime, c: Case, bytes: &[u8], numbers: &[u64]) -> bool {
-    if c.is_text {
-        return text_differs(
-            rt,
-            c,
-            bytes,
-            recorded::get(numbers, 0),
-            recorded::rest(numbers, 1),
-        );
+    match c.kind {
+        Kind::Text => {
+            let shift = recorded::get(numbers, 0);
+            text_differs(rt, c, bytes, shift, recorded::rest(numbers, 1))
+        }
+        Kind::Expansion => {
+            let d = asked::expansions::expanded(bytes, numbers);
+            say::differs(rt, c, Form::Expand, d)
+        }
     }
-    say::differs(
-        rt,
-        c,
-        say::EXPAND,
-        asked::expansions::expanded(bytes, numbers),
-    )
 }
 
 fn text_differs(rt: &HostRuntime, c: Case, text: &[u8], shift: u64, recorded: &[u64]) -> bool {
-    let a = say::differs(rt, c, say::RUN, asked::texts::listed(text, shift, recorded));
+    let a = say::differs(
+        rt,
+        c,
+        Form::Run,
+        asked::texts::listed(text, shift, recorded),
+    );
     let b = say::differs(
         rt,
         c,
-        say::NEXT,
+        Form::Next,
         asked::texts::called(text, shift, recorded),
     );
     let d = say::differs(
         rt,
         c,
-        say::NUMBERS,
+        Form::Numbers,
         asked::texts::numbered(text, shift, recorded),
     );
     a | b | d

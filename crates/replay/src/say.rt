@@ -2,20 +2,27 @@
 use recorded::Difference;
 
 // The forms in which a case is asked: a text in the first three, an expansion in the fourth.
-pub const RUN: usize = 0;
+#[derive(Clone, Copy)]
+pub enum Form {
+    Run,
+    Next,
+    Numbers,
+    Expand,
+}
 
-pub const NEXT: usize = 1;
+// What a case is.
+#[derive(Clone, Copy)]
+pub enum Kind {
+    Text,
+    Expansion,
+}
 
-pub const NUMBERS: usize = 2;
-
-pub const EXPAND: usize = 3;
-
-// A case: whether it is planted, whether its difference is said, whether it is a text or an expansion, and its number.
+// A case: what it is, whether it is planted, whether its difference is said, and its number.
 #[derive(Clone, Copy)]
 pub struct Case {
+    pub kind: Kind,
     pub planted: bool,
     pub said: bool,
-    pub is_text: bool,
     pub index: u64,
 }
 
@@ -33,10 +40,9 @@ fn title(rt: &HostRuntime, c: Case) {
     if c.planted {
         say(rt, b"planted ");
     }
-    if c.is_text {
-        say(rt, b"text ");
-    } else {
-        say(rt, b"expansion ");
+    match c.kind {
+        Kind::Text => say(rt, b"text "),
+        Kind::Expansion => say(rt, b"expansion "),
     }
     number(rt, c.index);
 }
@@ -47,13 +53,13 @@ pub(crate) fn not_whole(rt: &HostRuntime, c: Case) {
 }
 
 // The case and the form.
-fn titles(rt: &HostRuntime, c: Case, f: usize) {
+fn titles(rt: &HostRuntime, c: Case, f: Form) {
     title(rt, c);
     match f {
-        0 => say(rt, b", run::run"),
-        1 => say(rt, b", run::next"),
-        2 => say(rt, b", run::run_numbers"),
-        _ => {}
+        Form::Run => say(rt, b", run::run"),
+        Form::Next => say(rt, b", run::next"),
+        Form::Numbers => say(rt, b", run::run_numbers"),
+        Form::Expand => {}
     }
 }
 
@@ -102,12 +108,11 @@ fn of_expansion(rt: &HostRuntime, i: usize) {
 }
 
 // Which number of a form's answer it is.
-fn field(rt: &HostRuntime, f: usize, i: usize) {
-    if f < EXPAND {
-        of_text(rt, i);
-        return;
+fn field(rt: &HostRuntime, f: Form, i: usize) {
+    match f {
+        Form::Run | Form::Next | Form::Numbers => of_text(rt, i),
+        Form::Expand => of_expansion(rt, i),
     }
-    of_expansion(rt, i);
 }
 
 fn both(rt: &HostRuntime, recorded: u64, answered: u64) {
@@ -118,7 +123,7 @@ fn both(rt: &HostRuntime, recorded: u64, answered: u64) {
     say(rt, b"\n");
 }
 
-fn difference(rt: &HostRuntime, f: usize, d: Difference) {
+fn difference(rt: &HostRuntime, f: Form, d: Difference) {
     say(rt, b": ");
     match d {
         Difference::Same => {}
@@ -151,7 +156,7 @@ pub(crate) fn sum(rt: &HostRuntime, d: Difference) {
 }
 
 // Whether a form of a case differs. A difference is said, and of a planted case also that there is none.
-pub(crate) fn differs(rt: &HostRuntime, c: Case, f: usize, d: Difference) -> bool {
+pub(crate) fn differs(rt: &HostRuntime, c: Case, f: Form, d: Difference) -> bool {
     match d {
         Difference::Same => {
             if c.planted {

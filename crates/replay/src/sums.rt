@@ -30,20 +30,14 @@ pub(crate) fn compare(rt: &HostRuntime, said: bool, page: &mut [u64], row: &[u64
     }
 }
 
-fn clear(list: &mut [u64]) {
-    for number in list.iter_mut() {
-        *number = 0;
-    }
-}
-
 // A sheet that is full is compared, and another is begun.
 fn turn(rt: &HostRuntime, said: bool, page: &mut [u64], row: &mut [u64]) -> bool {
     if recorded::get(row, TEXTS_TAKEN) < MOST_TEXTS {
         return true;
     }
     let same = compare(rt, said, page, row);
-    clear(page);
-    clear(row);
+    page.fill(0);
+    row.fill(0);
     same
 }
 

@@ -1,4 +1,5 @@
 -- Groups of numbers, one after another, in a lent list.
+use Rattle.std.specs.Prelude.{Ok, Err}
 use Prim.Native.Nat.{ℕ, suc, ◌+◌, ◌*◌, ◌/◌, ◌<◌, ◌≤◌}
 use mathlib.Core.Bool.{true, false}
 use native.Mathlib.Omega.{arith}
@@ -11,7 +12,6 @@ use Rattle.record.specs.Checks.{checks}
 use Rattle.record.specs.Numbers.{kind_number}
 use Rattle.record.specs.Records.{over, refusal, told_number}
 use Rattle.record.specs.Stores.{sets_append, sets_over}
-use Rattle.record.specs.declared.Checked.TheVariants.{Passed, Refused as Stopped}
 use Rattle.record.specs.declared.Code.TheVariants.{BadRecord}
 use Rattle.record.specs.declared.Refusal.{Refusal}
 use Rattle.record.specs.declared.Token.{Token}
@@ -21,7 +21,7 @@ use Rattle.reading.specs.declared.Outcome.TheVariants.{Refused, Running}
 use Rattle.reading.specs.declared.Tokenizer.{Tokenizer}
 use Rattle.run.specs.Checked.{ran_of, ran_with, whole_run, whole_run_with}
 use Rattle.run.specs.Numbers.{group_of, groups, numbers_of, size_of, told_of}
-use Rattle.run.specs.Pending.{advance_of, begin_of, halted, pend_of, running, runs_as}
+use Rattle.run.specs.Pending.{advance_of, begin_of, halted, pend_of, running, runs_as, is_going, taken}
 use Rattle.run.specs.Room.{Ready}
 use Rattle.run.specs.Steps.{ready_of}
 use Rattle.run.specs.declared.Group.{Group}
@@ -115,18 +115,18 @@ module _ (g : Group) (s : List ℕ) (shift limit room : ℕ) (t₀ : Tokenizer) 
   numbered_start p e = record { k = length s; done = []; core = rw e (core_start s shift limit room t₀); list_is = refl }
 
   module _ (p : Pending) (ys : List ℕ) (i : Numbered g s shift limit room t₀ xs p ys) where
-    pub numbered_turn : p.going ≡ true → (p' : Pending) (ys' : List ℕ) → p' ≡ advance_of s shift limit room p → ys' ≡ sets ys (size_of g * p.ran.stored) (group_of g p.token)
+    pub numbered_turn : is_going p ≡ true → (p' : Pending) (ys' : List ℕ) → p' ≡ advance_of s shift limit room p → ys' ≡ sets ys (size_of g * p.ran.stored) (group_of g (taken p))
         → Numbered g s shift limit room t₀ xs p' ys'
     numbered_turn o p' ys' e f =
         let n = core_turn s shift limit room t₀ i.k p i.done i.core o in
         record {
           k = n.less;
-          done = i.done ++ (p.token ∷ []);
+          done = i.done ++ (taken p ∷ []);
           core = rw e n.again;
-          list_is = f ∙ ap (λ (y : List ℕ). sets y (size_of g * p.ran.stored) (group_of g p.token)) i.list_is ∙ group_on g i.done p.token xs p.ran.stored i.core.stored_is;
+          list_is = f ∙ ap (λ (y : List ℕ). sets y (size_of g * p.ran.stored) (group_of g (taken p))) i.list_is ∙ group_on g i.done (taken p) xs p.ran.stored i.core.stored_is;
         }
 
-    pub numbered_end : p.going ≡ false → room ≡ length xs / size_of g
+    pub numbered_end : is_going p ≡ false → room ≡ length xs / size_of g
         → (p.ran ≡ ran_of s shift limit room t₀) × (ys ≡ over (groups g (whole_run s shift limit room t₀).tokens) xs)
     numbered_end o e =
         let h = core_end s shift limit room t₀ i.k p i.done i.core o in
@@ -140,7 +140,7 @@ pub record Asking (g : Group) (s : List ℕ) (shift limit room : ℕ) (t₀ : To
   pub pending : Numbered g s shift limit room t₀ xs (pend_of s shift limit room n t) ys
 
 module _ (g : Group) (s : List ℕ) (shift limit room : ℕ) (t₀ : Tokenizer) (xs : List ℕ) where
-  pub asking_start : checks s shift ≡ Passed → boundary s t₀.at ≡ true → Asking g s shift limit room t₀ xs 0 t₀ xs
+  pub asking_start : checks s shift ≡ (Ok tt) → boundary s t₀.at ≡ true → Asking g s shift limit room t₀ xs 0 t₀ xs
   unfolding begin_of
   asking_start e b =
       record {
@@ -155,7 +155,7 @@ module _ (g : Group) (s : List ℕ) (shift limit room : ℕ) (t₀ : Tokenizer) 
     stored : p.ran.stored ≡ n
     stored = rw q (pend_goes s shift limit room n t).0
 
-    pub asking_turn : p.going ≡ true → (ys' : List ℕ) → ys' ≡ sets ys (size_of g * n) (group_of g p.token)
+    pub asking_turn : is_going p ≡ true → (ys' : List ℕ) → ys' ≡ sets ys (size_of g * n) (group_of g (taken p))
         → Asking g s shift limit room t₀ xs (n + 1) (running p.ran.state.reading p.ran.state.at p.ran.state.count) ys'
     unfolding advance_of
     asking_turn v ys' f =
@@ -166,24 +166,24 @@ module _ (g : Group) (s : List ℕ) (shift limit room : ℕ) (t₀ : Tokenizer) 
           pending = numbered_turn g s shift limit room t₀ xs p ys here v (pend_of s shift limit room (n + 1) p.ran.state) ys' (rw stored) (rw stored f);
         })
 
-    pub asking_end : p.going ≡ false → room ≡ length xs / size_of g → (r : Ran) → r ≡ p.ran
+    pub asking_end : is_going p ≡ false → room ≡ length xs / size_of g → (r : Ran) → r ≡ p.ran
         → (r ≡ ran_of s shift limit room t₀) × (ys ≡ over (groups g (whole_run s shift limit room t₀).tokens) xs)
     asking_end v e r f = let h = numbered_end g s shift limit room t₀ xs p ys here v e in (f ∙ h.0, h.1)
 
 -- ---- a run that the checks refuse, or a cursor off the boundaries: nothing is stored
 module _ (g : Group) (s : List ℕ) (shift limit room : ℕ) (t₀ : Tokenizer) (xs : List ℕ) where
-  pub refused_run : (r : Refusal) → checks s shift ≡ Stopped r
+  pub refused_run : (r : Refusal) → checks s shift ≡ Err r
       → ((halted 0 (Refused r) 0 t₀).ran ≡ ran_of s shift limit room t₀) × (xs ≡ over (groups g (whole_run s shift limit room t₀).tokens) xs)
   unfolding ran_with whole_run_with groups
   refused_run r e = rw e (refl, refl)
 
-  pub off_run : checks s shift ≡ Passed → boundary s t₀.at ≡ false
+  pub off_run : checks s shift ≡ (Ok tt) → boundary s t₀.at ≡ false
       → ((halted 0 (Refused (refusal BadRecord 0)) t₀.count t₀).ran ≡ ran_of s shift limit room t₀) × (xs ≡ over (groups g (whole_run s shift limit room t₀).tokens) xs)
   unfolding ran_with whole_run_with groups
   off_run e b = rw (e, b) (refl, refl)
 
   -- .. nor by a run that stops at once, as that of a tokenizer does that has ended or was refused
-  pub idle_run : (d : Outcome) → checks s shift ≡ Passed → boundary s t₀.at ≡ true → run s shift limit room t₀ ≡ stopped d t₀
+  pub idle_run : (d : Outcome) → checks s shift ≡ (Ok tt) → boundary s t₀.at ≡ true → run s shift limit room t₀ ≡ stopped d t₀
       → ((halted 0 d t₀.count t₀).ran ≡ ran_of s shift limit room t₀) × (xs ≡ over (groups g (whole_run s shift limit room t₀).tokens) xs)
   unfolding ran_with whole_run_with groups
   idle_run d e b q = rw (e, b) (rw q (refl, refl))

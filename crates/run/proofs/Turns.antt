@@ -3,6 +3,7 @@
 --     within     where a token is going, there is room for it
 --     turn       after the token is stored and the next one read it holds again, at a smaller bound
 --     end        where no token is going, answer and list are what the contract says
+use Rattle.std.specs.Prelude.{Result, Ok, Err}
 use Prim.Native.Nat.{ℕ, zero, suc, ◌+◌, ◌-◌, ◌<◌, ◌≤◌}
 use native.Mathlib.Omega.{arith}
 use mathlib.Core.Bool.{Bool, true, false, cond}
@@ -15,8 +16,6 @@ use borrow.Author.Tests.{lt-ltb, le-ltb, ltb-true, ltb-false}
 use Rattle.utf8.specs.Utf8.{boundary}
 use Rattle.record.specs.Checks.{checks}
 use Rattle.record.specs.Records.{over, refusal}
-use Rattle.record.specs.declared.Checked.{Checked}
-use Rattle.record.specs.declared.Checked.TheVariants.{Passed, Refused as Stopped}
 use Rattle.record.specs.declared.Code.TheVariants.{BadRecord, NoRoom}
 use Rattle.record.specs.declared.Token.{Token}
 use Rattle.reading.specs.Run.{Run, also, run, run_from, run_from_with, run_with, step, stopped}
@@ -27,11 +26,12 @@ use Rattle.reading.specs.declared.Tokenizer.{Tokenizer}
 use Rattle.reading.specs.declared.What.{What}
 use Rattle.reading.specs.declared.What.TheVariants.{End, Error, Got}
 use Rattle.run.specs.Checked.{count_if, ran_of, ran_with, run_if, whole_run, whole_run_with}
-use Rattle.run.specs.Pending.{advance_of, begin_if, begin_of, goes, halted, pend_by, pend_of}
+use Rattle.run.specs.Pending.{advance_of, begin_if, begin_of, goes, halted, pend_by, pend_of, is_going, taken}
 use Rattle.run.specs.Room.{Onward}
 use Rattle.run.specs.Steps.{ready_of, step_ready, step-runs}
 use Rattle.run.specs.TakenUp.{before, never_running}
 use Rattle.run.specs.declared.Pending.{Pending}
+use Rattle.record.specs.declared.Refusal.{Refusal}
 
 no : {X : Type 0} → false ≡ true → X
 no e = let z : ◌≡◌ {A = ℕ} 0 1 = cc in absurd (omega arith)
@@ -39,11 +39,11 @@ no e = let z : ◌≡◌ {A = ℕ} 0 1 = cc in absurd (omega arith)
 -- ---- what is left of a run, from a pending token
 module _ (s : List ℕ) (shift limit room : ℕ) where
   abbrev pub onward_by : Bool → ℕ → Pending → Run
-  onward_by true k p = also p.token (run_from s shift limit k (room - (p.ran.stored + 1)) p.ran.state)
+  onward_by true k p = also (taken p) (run_from s shift limit k (room - (p.ran.stored + 1)) p.ran.state)
   onward_by false k p = record { tokens = []; how = p.ran.how; state = p.ran.state; last = p.ran.last_depth }
 
   unfoldable pub onward : ℕ → Pending → Run
-  onward k p = onward_by p.going k p
+  onward k p = onward_by (is_going p) k p
 
   -- of a pending token: what stands in it
   module _ (n : ℕ) (t : Tokenizer) where
@@ -71,7 +71,7 @@ module _ (s : List ℕ) (shift limit room : ℕ) where
 
     -- where a token is going there is room, and the tokenizer is the step's
     abbrev Goes : Tokenizer → Pending → Type 0
-    Goes u p = (p.ran.stored ≡ n) × (p.ran.advances ≡ p.ran.state.count) × (p.going ≡ true → (n < room) × (p.ran.state ≡ u))
+    Goes u p = (p.ran.stored ≡ n) × (p.ran.advances ≡ p.ran.state.count) × (is_going p ≡ true → (n < room) × (p.ran.state ≡ u))
 
     got_goes : (x : Token) (u : Tokenizer) (how : Outcome) (b : Bool) → ltb n room ≡ b → Goes u (cond b (goes n x u) (halted n how t.count t))
     got_goes x u how true q = (refl, refl, λ e. (ltb-true n room q, refl))
@@ -87,12 +87,12 @@ module _ (s : List ℕ) (shift limit room : ℕ) where
     pend_goes = by_goes (step s shift limit t).what (step s shift limit t).next (step s shift limit t).gap_depth
 
     -- .. and it runs
-    by_runs : (w : What) → (step s shift limit t).what ≡ w → (pend_by w room n t (step s shift limit t).next (step s shift limit t).gap_depth).going ≡ true → (step s shift limit t).next.done ≡ Running
+    by_runs : (w : What) → (step s shift limit t).what ≡ w → is_going (pend_by w room n t (step s shift limit t).next (step s shift limit t).gap_depth) ≡ true → (step s shift limit t).next.done ≡ Running
     by_runs (Got y) e g = step-runs s shift limit t y e
     by_runs (Error r) e g = no g
     by_runs End e g = no g
 
-    pub pend_runs : (pend_of s shift limit room n t).going ≡ true → (pend_of s shift limit room n t).ran.state.done ≡ Running
+    pub pend_runs : is_going (pend_of s shift limit room n t) ≡ true → (pend_of s shift limit room n t).ran.state.done ≡ Running
     unfolding pend_of
     pend_runs g = ap (λ (u : Tokenizer). u.done) (pend_goes.2 g).1 ∙ by_runs (step s shift limit t).what refl g
 
@@ -102,14 +102,14 @@ pub record Core (s : List ℕ) (shift limit room : ℕ) (t₀ : Tokenizer) (k : 
   pub fits : length done ≤ room
   pub run_is : before done (onward s shift limit room k p) ≡ whole_run s shift limit room t₀
   pub counted : p.ran.advances ≡ count_if (checks s shift) p.ran.state.count
-  pub passed : p.going ≡ true → checks s shift ≡ Passed
-  pub going_on : p.going ≡ true → Onward s shift room p
+  pub passed : is_going p ≡ true → checks s shift ≡ Ok tt
+  pub going_on : is_going p ≡ true → Onward s shift room p
   pub ends : (whole_run s shift limit room t₀).how ≡ Running → ⊥
 
 module _ (s : List ℕ) (shift limit room : ℕ) (t₀ : Tokenizer) where
-  begun : (c : Checked) → checks s shift ≡ c → (b : Bool) → boundary s t₀.at ≡ b → Core s shift limit room t₀ (length s) (begin_of s shift limit room t₀) []
+  begun : (c : Result Unit Refusal) → checks s shift ≡ c → (b : Bool) → boundary s t₀.at ≡ b → Core s shift limit room t₀ (length s) (begin_of s shift limit room t₀) []
   unfolding begin_of whole_run_with onward run_with
-  begun Passed c true b =
+  begun (Ok tt) c true b =
       let r = ready_of s shift t₀ c b in
       let z : room - 0 ≡ room = omega arith in
       let g = pend_goes s shift limit room 0 t₀ in
@@ -121,11 +121,11 @@ module _ (s : List ℕ) (shift limit room : ℕ) (t₀ : Tokenizer) where
         run_is = ap (λ (p : Pending). onward s shift limit room (length s) p) e ∙ sym (pend_run s shift limit room 0 t₀ (length s)) ∙ ap (λ (i : ℕ). run_from s shift limit (suc (length s)) i t₀) z ∙ sym f;
         counted = rw (e, c) g.1;
         passed = λ _. c;
-        going_on = λ h. let h' : (pend_of s shift limit room 0 t₀).going ≡ true = rw e at h in
+        going_on = λ h. let h' : is_going (pend_of s shift limit room 0 t₀) ≡ true = rw e at h in
             record { ready = rw (e, (g.2 h').1) (step_ready s shift limit t₀ r); space = rw (e, g.0) (g.2 h').0 };
         ends = λ h. never_running s shift limit room t₀ r (rw f at h);
       }
-  begun Passed c false b =
+  begun (Ok tt) c false b =
       let e : begin_if (checks s shift) s shift limit room t₀ ≡ halted 0 (Refused (refusal BadRecord 0)) t₀.count t₀ = rw (c, b) in
       let f : run_if (checks s shift) s shift limit room t₀ ≡ stopped (Refused (refusal BadRecord 0)) t₀ = rw (c, b) in
       record {
@@ -137,7 +137,7 @@ module _ (s : List ℕ) (shift limit room : ℕ) (t₀ : Tokenizer) where
         going_on = λ h. no (rw e at h);
         ends = λ h. let q : Refused (refusal BadRecord 0) ≡ Running = rw f at h in let z : ◌≡◌ {A = ℕ} 0 1 = cc in omega arith;
       }
-  begun (Stopped x) c b e₀ =
+  begun (Err x) c b e₀ =
       let e : begin_if (checks s shift) s shift limit room t₀ ≡ halted 0 (Refused x) 0 t₀ = rw c in
       let f : run_if (checks s shift) s shift limit room t₀ ≡ stopped (Refused x) t₀ = rw c in
       record {
@@ -159,9 +159,9 @@ module _ (s : List ℕ) (shift limit room : ℕ) (t₀ : Tokenizer) where
   pub record CoreNext (k : ℕ) (p : Pending) (done : List Token) : Type 0 where
     pub less : ℕ
     pub below : less < k
-    pub again : Core s shift limit room t₀ less (advance_of s shift limit room p) (done ++ (p.token ∷ []))
+    pub again : Core s shift limit room t₀ less (advance_of s shift limit room p) (done ++ (taken p ∷ []))
 
-  pub core_turn : (k : ℕ) (p : Pending) (done : List Token) → Core s shift limit room t₀ k p done → p.going ≡ true → CoreNext k p done
+  pub core_turn : (k : ℕ) (p : Pending) (done : List Token) → Core s shift limit room t₀ k p done → is_going p ≡ true → CoreNext k p done
   unfolding onward run_from_with advance_of
   core_turn zero p d i e =
       let h : before d (onward_by s shift limit room true 0 p) ≡ whole_run s shift limit room t₀ = rw e at i.run_is in
@@ -170,7 +170,7 @@ module _ (s : List ℕ) (shift limit room : ℕ) (t₀ : Tokenizer) where
       let n = p.ran.stored in
       let g = pend_goes s shift limit room (n + 1) p.ran.state in
       let h : before d (onward_by s shift limit room true (suc k) p) ≡ whole_run s shift limit room t₀ = rw e at i.run_is in
-      let m : n + 1 ≡ length (d ++ (p.token ∷ [])) = ap (λ (j : ℕ). j + 1) i.stored_is ∙ one-longer d p.token in
+      let m : n + 1 ≡ length (d ++ (taken p ∷ [])) = ap (λ (j : ℕ). j + 1) i.stored_is ∙ one-longer d (taken p) in
       let o = i.going_on e in
       let l = o.space in
       record {
@@ -179,7 +179,7 @@ module _ (s : List ℕ) (shift limit room : ℕ) (t₀ : Tokenizer) where
         again = record {
           stored_is = g.0 ∙ m;
           fits = subst (λ (j : ℕ). j ≤ room) m (omega arith);
-          run_is = ap (λ (r : Run). before (d ++ (p.token ∷ [])) r) (sym (pend_run s shift limit room (n + 1) p.ran.state k)) ∙ shuffle d (run_from s shift limit (suc k) (room - (n + 1)) p.ran.state) ∙ h;
+          run_is = ap (λ (r : Run). before (d ++ (taken p ∷ [])) r) (sym (pend_run s shift limit room (n + 1) p.ran.state k)) ∙ shuffle d (run_from s shift limit (suc k) (room - (n + 1)) p.ran.state) ∙ h;
           counted = rw (i.passed e) g.1;
           passed = λ _. i.passed e;
           going_on = λ q. record { ready = rw (g.2 q).1 (step_ready s shift limit p.ran.state o.ready); space = rw g.0 (g.2 q).0 };
@@ -187,14 +187,14 @@ module _ (s : List ℕ) (shift limit room : ℕ) (t₀ : Tokenizer) where
         };
       }
     where
-      shuffle : (ds : List Token) (r : Run) → before (ds ++ (p.token ∷ [])) r ≡ before ds (also p.token r)
-      shuffle ds r = ap (λ (y : List Token). record { tokens = y; how = r.how; state = r.state; last = r.last }) (append_snoc ds p.token r.tokens)
+      shuffle : (ds : List Token) (r : Run) → before (ds ++ (taken p ∷ [])) r ≡ before ds (also (taken p) r)
+      shuffle ds r = ap (λ (y : List Token). record { tokens = y; how = r.how; state = r.state; last = r.last }) (append_snoc ds (taken p) r.tokens)
 
   pub advance-stored : (p : Pending) → (advance_of s shift limit room p).ran.stored ≡ p.ran.stored + 1
   unfolding advance_of
   advance-stored p = (pend_goes s shift limit room (p.ran.stored + 1) p.ran.state).0
 
-  pub core_end : (k : ℕ) (p : Pending) (done : List Token) → Core s shift limit room t₀ k p done → p.going ≡ false
+  pub core_end : (k : ℕ) (p : Pending) (done : List Token) → Core s shift limit room t₀ k p done → is_going p ≡ false
       → (p.ran ≡ ran_of s shift limit room t₀) × (done ≡ (whole_run s shift limit room t₀).tokens)
   unfolding onward ran_with
   core_end k p done i e =
@@ -223,10 +223,10 @@ module _ (s : List ℕ) (shift limit : ℕ) (xs : List Token) (t₀ : Tokenizer)
     pub same_length : length ys ≡ length xs
     same_length = ap length i.list_is ∙ length_front xs i.done (length i.done) (sym (length-take-le (length i.done) xs i.core.fits))
 
-    pub goes_on : p.going ≡ true → Onward s shift room p
+    pub goes_on : is_going p ≡ true → Onward s shift room p
     goes_on e = i.core.going_on e
 
-    pub within : p.going ≡ true → p.ran.stored < length xs
+    pub within : is_going p ≡ true → p.ran.stored < length xs
     within e = (goes_on e).space
 
   -- the list after the store
@@ -245,22 +245,22 @@ module _ (s : List ℕ) (shift limit : ℕ) (xs : List Token) (t₀ : Tokenizer)
   pub record Next (k : ℕ) (p : Pending) (ys : List Token) : Type 0 where
     pub less : ℕ
     pub below : less < k
-    pub again : Inv s shift limit xs t₀ less (advance_of s shift limit room p) (set ys p.ran.stored p.token)
+    pub again : Inv s shift limit xs t₀ less (advance_of s shift limit room p) (set ys p.ran.stored (taken p))
 
-  pub turn : (k : ℕ) (p : Pending) (ys : List Token) → Inv s shift limit xs t₀ k p ys → p.going ≡ true → Next k p ys
+  pub turn : (k : ℕ) (p : Pending) (ys : List Token) → Inv s shift limit xs t₀ k p ys → is_going p ≡ true → Next k p ys
   turn k p ys i e =
       let n = core_turn s shift limit room t₀ k p i.done i.core e in
       record {
         less = n.less;
         below = n.below;
         again = record {
-          done = i.done ++ (p.token ∷ []);
+          done = i.done ++ (taken p ∷ []);
           core = n.again;
-          list_is = ap (λ (y : List Token). set y p.ran.stored p.token) i.list_is ∙ stores i.done p.ran.stored p.token i.core.stored_is (within k p ys i e);
+          list_is = ap (λ (y : List Token). set y p.ran.stored (taken p)) i.list_is ∙ stores i.done p.ran.stored (taken p) i.core.stored_is (within k p ys i e);
         };
       }
 
-  pub end : (k : ℕ) (p : Pending) (ys : List Token) → Inv s shift limit xs t₀ k p ys → p.going ≡ false
+  pub end : (k : ℕ) (p : Pending) (ys : List Token) → Inv s shift limit xs t₀ k p ys → is_going p ≡ false
       → (p.ran ≡ ran_of s shift limit room t₀) × (ys ≡ over (whole_run s shift limit room t₀).tokens xs)
   end k p ys i e =
       let h = core_end s shift limit room t₀ k p i.done i.core e in

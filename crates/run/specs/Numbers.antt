@@ -1,8 +1,7 @@
 -- A run over plain numbers: each record is a group of five of them, or of nine.
-use Rattle.std.specs.Prelude.{ℕ, List, [], ◌∷◌, ◌++◌}
+use Rattle.std.specs.Prelude.{ℕ, List, [], ◌∷◌, ◌++◌, None}
 use Rattle.record.specs.Numbers.{kind_number}
 use Rattle.record.specs.Records.{told_number}
-use Rattle.record.specs.declared.Told.TheVariants.{Unknown}
 use Rattle.record.specs.declared.Token.{Token}
 use Rattle.run.specs.declared.Group.{Group}
 use Rattle.run.specs.declared.Group.TheVariants.{Five, Nine}
@@ -13,7 +12,7 @@ numbers_of t = kind_number t.kind ∷ t.start ∷ t.end ∷ t.payload_start ∷ 
 
 -- 02, E4: the depth of the gap before it and of its code; two further numbers are not known yet
 abbrev pub told_of : Token → List ℕ
-told_of t = told_number t.gap_depth ∷ told_number t.code_depth ∷ told_number Unknown ∷ told_number Unknown ∷ []
+told_of t = told_number t.gap_depth ∷ told_number t.code_depth ∷ told_number None ∷ told_number None ∷ []
 
 abbrev pub size_of : Group → ℕ
 size_of Five = 5

@@ -1,11 +1,10 @@
 -- What the steps of a run stand on: the checks leave room for every place, and a call stays in the text.
-use Rattle.std.specs.Prelude.{ℕ, ◌+◌, ◌-◌, ◌≤◌, ◌<◌, Bool, true, false, ◌&&◌, ◌||◌, List, ◌≡◌, refl, eqb, ltb, length}
+use Rattle.std.specs.Prelude.{ℕ, ◌+◌, ◌-◌, ◌≤◌, ◌<◌, Bool, true, false, ◌&&◌, ◌||◌, List, ◌≡◌, refl, eqb, ltb, length, Ok}
 use Rattle.std.proofs.Common.{arith, ap, ◌∙◌}
 use Rattle.utf8.specs.Picks.{tests}
 use Rattle.utf8.specs.Utf8.{boundary}
 use Rattle.record.specs.Allowed.{allowed}
 use Rattle.record.specs.Checks.{checks}
-use Rattle.record.specs.declared.Checked.TheVariants.{Passed}
 use Rattle.record.specs.declared.Refusal.{Refusal}
 use Rattle.record.specs.declared.Token.{Token}
 use Rattle.scan.specs.Until.{left}
@@ -30,7 +29,7 @@ boundary-within s p e = go (eqb p (length s)) (ltb p (length s)) refl refl
     go false true a b = omega tests
     go false false a b = let z : false ≡ true = rw (a, b) at e in let w : ◌≡◌ {A = ℕ} 0 1 = cc in absurd (omega arith)
 
-pub ready_of : (s : List ℕ) (shift : ℕ) (t : Tokenizer) → checks s shift ≡ Passed → boundary s t.at ≡ true → Ready s shift t
+pub ready_of : (s : List ℕ) (shift : ℕ) (t : Tokenizer) → checks s shift ≡ (Ok tt) → boundary s t.at ≡ true → Ready s shift t
 ready_of s shift t e b =
     let a = allowed s shift e in
     let f = a.fits in

@@ -5,7 +5,6 @@ ghost use Rattle.std.specs.Prelude.{◌≡◌, ◌+◌, ◌*◌, ◌/◌, ◌<�
 ghost use Rattle.std.proofs.lemmas.List.Edits.{sets};
 ghost use Rattle.utf8.specs.Utf8.{boundary, chars};
 ghost use Rattle.record.specs.Checks.{checks};
-ghost use Rattle.record.specs.declared.Checked.TheVariants.{Passed};
 ghost use Rattle.record.specs.declared.Code.TheVariants.{NoRoom, WorkLimit};
 ghost use Rattle.record.specs.Records.{over, refusal};
 ghost use Rattle.reading.specs.Next.{next};
@@ -20,7 +19,7 @@ ghost use Rattle.run.specs.Pending.{advance_of, begin_of, ended, goes, halted, p
 ghost use Rattle.run.specs.Room.{Onward, Ready, Roomy, RoomyIn};
 
 use reading::{Outcome, Stepped, Tokenizer, What};
-use record::{Checked, Code, Kind, Reading, Refusal, Token};
+use record::{Code, Reading, Refusal, Token};
 
 // How a run ended: how many records it stored, how it stopped, the advances, the tokenizer after it, and how deep the comments go in the gap that it
 // read before the end; 0 if it read none or stopped otherwise.
@@ -40,11 +39,10 @@ pub enum Group {
     Nine,
 }
 
-// A token that is read and not stored yet, or, where it is not going, the end of the run.
+// A token that is read and not stored yet, or none at the end of the run.
 #[derive(Clone, Copy)]
 pub struct Pending {
-    pub going: bool,
-    pub token: Token,
+    pub token: Option<Token>,
     pub ran: Ran,
 }
 
@@ -66,17 +64,12 @@ fn shift_token(shift: u64, t: Token) -> Token
     requires { RoomyIn shift (Got t) }
     ensures { result ≡ shift_token shift t }
 {
-    let kind = t.kind;
-    let gap = t.gap_depth;
-    let code = t.code_depth;
     Token {
-        kind,
         start: t.start + shift,
         end: t.end + shift,
         payload_start: t.payload_start + shift,
         payload_end: t.payload_end + shift,
-        gap_depth: gap,
-        code_depth: code,
+        ..t
     }
 }
 
@@ -87,13 +80,10 @@ fn shift_what(shift: u64, w: What) -> What
 {
     match w {
         What::Got(t) => What::Got(shift_token(shift, t)),
-        What::Error(r) => {
-            let code = r.code;
-            What::Error(Refusal {
-                code,
-                place: r.place + shift,
-            })
-        }
+        What::Error(r) => What::Error(Refusal {
+            place: r.place + shift,
+            ..r
+        }),
         What::End => What::End,
     }
 }
@@ -170,7 +160,7 @@ pub fn next_token(text: &[u8], shift: u64, limit: u64, t: Tokenizer) -> Stepped
     ensures { result ≡ next_token text.now shift limit t }
 {
     match record::checks(text, shift) {
-        Checked::Passed => {
+        Ok(()) => {
             let at = t.at;
             if utf8::is_boundary(text, at as usize) {
                 return step(text, shift, limit, t);
@@ -184,7 +174,7 @@ pub fn next_token(text: &[u8], shift: u64, limit: u64, t: Tokenizer) -> Stepped
                 gap_depth: 0,
             }
         }
-        Checked::Refused(r) => Stepped {
+        Err(r) => Stepped {
             what: What::Error(r),
             next: t,
             gap_depth: 0,
@@ -197,8 +187,7 @@ fn halted(n: usize, how: Outcome, advances: u64, t: Tokenizer) -> Pending
     ensures { result ≡ halted n how advances t }
 {
     Pending {
-        going: false,
-        token: record::token_of(Kind::Enum, 0, 0, 0, 0),
+        token: None,
         ran: Ran {
             stored: n,
             how,
@@ -214,8 +203,7 @@ fn ended(n: usize, t: Tokenizer, g: u64) -> Pending
     ensures { result ≡ ended n t g }
 {
     Pending {
-        going: false,
-        token: record::token_of(Kind::Enum, 0, 0, 0, 0),
+        token: None,
         ran: Ran {
             stored: n,
             how: Outcome::Ended,
@@ -231,8 +219,7 @@ fn goes(n: usize, token: Token, t: Tokenizer) -> Pending
     ensures { result ≡ goes n token t }
 {
     Pending {
-        going: true,
-        token,
+        token: Some(token),
         ran: Ran {
             stored: n,
             how: Outcome::Running,
@@ -272,7 +259,7 @@ pub fn begin(text: &[u8], shift: u64, limit: u64, room: usize, t: Tokenizer) -> 
     ensures { result ≡ begin_of text.now shift limit room t }
 {
     match record::checks(text, shift) {
-        Checked::Passed => {
+        Ok(()) => {
             let at = t.at;
             if utf8::is_boundary(text, at as usize) {
                 return pend(text, shift, limit, room, 0, t);
@@ -283,7 +270,7 @@ pub fn begin(text: &[u8], shift: u64, limit: u64, room: usize, t: Tokenizer) -> 
             });
             halted(0, off, t.count, t)
         }
-        Checked::Refused(r) => halted(0, Outcome::Refused(r), 0, t),
+        Err(r) => halted(0, Outcome::Refused(r), 0, t),
     }
 }
 
@@ -313,8 +300,8 @@ pub fn run(text: &[u8], shift: u64, limit: u64, list: &mut [Token], from: Tokeni
 {
     let room = list.len();
     let mut p = begin(text, shift, limit, room, from);
-    while p.going {
-        list[p.ran.stored] = p.token;
+    while let Some(token) = p.token {
+        list[p.ran.stored] = token;
         p = advance(text, shift, limit, room, p);
     }
     p.ran
@@ -337,13 +324,13 @@ fn is_payload(text: &[u8], shift: u64, from: u64, to: u64) -> bool
 }
 
 // The check of a record's payload.
-pub fn payload_check(text: &[u8], shift: u64, t: Token) -> Checked
+pub fn payload_check(text: &[u8], shift: u64, t: Token) -> Result<(), Refusal>
     ensures { result ≡ payload_check text.now shift t }
 {
     if is_payload(text, shift, t.payload_start, t.payload_end) {
-        return Checked::Passed;
+        return Ok(());
     }
-    Checked::Refused(Refusal {
+    Err(Refusal {
         code: Code::BadRecord,
         place: 0,
     })
@@ -456,10 +443,9 @@ fn lost(rd: Reading, n: usize, shift: u64, e: Refusal, at: u64, count: u64) -> R
     requires { e.place + shift < 0x10000000000000000 }
     ensures { result ≡ (halted n (Refused (refusal e.code (e.place + shift))) count (record { at = at; count = count; done = Refused (refusal e.code (e.place + shift)); reading = rd })).ran }
 {
-    let code = e.code;
     let how = Outcome::Refused(Refusal {
-        code,
         place: e.place + shift,
+        ..e
     });
     let t = Tokenizer {
         at,
@@ -488,6 +474,7 @@ fn at_end(rd: Reading, n: usize, at: u64, count: u64, g: u64) -> Ran
 // The run itself, for a text and a running tokenizer that passed the checks. Here alone the next token is asked for and stored, in one loop.
 // A token is stored straight from the call that answers it: a Pending for each would copy the whole token several times.
 // The tokenizer is its reading and two numbers there: as a whole, its `done` would be copied and asked again for each token.
+// A loop: a call goes on where the last one ended.
 fn store_on(
     text: &[u8],
     shift: u64,
@@ -498,7 +485,7 @@ fn store_on(
     from: u64,
     counted: u64,
 ) -> Ran
-    requires { (checks text.now shift ≡ Passed) × (boundary text.now from ≡ true) }
+    requires { (checks text.now shift ≡ (Ok tt)) × (boundary text.now from ≡ true) }
     ensures { (result ≡ ran_of text.now shift limit (length records.old / size_of g) (running rd from counted)) × (records.new ≡ over (groups g (whole_run text.now shift limit (length records.old / size_of g) (running rd from counted)).tokens) records.old) }
 {
     let size = group_size(g);
@@ -544,7 +531,7 @@ fn store_all(
     g: Group,
     from: Tokenizer,
 ) -> Ran
-    requires { (checks text.now shift ≡ Passed) × (boundary text.now from.at ≡ true) }
+    requires { (checks text.now shift ≡ (Ok tt)) × (boundary text.now from.at ≡ true) }
     ensures { (result ≡ ran_of text.now shift limit (length records.old / size_of g) from) × (records.new ≡ over (groups g (whole_run text.now shift limit (length records.old / size_of g) from).tokens) records.old) }
 {
     let count = from.count;
@@ -577,7 +564,7 @@ fn run_groups(
     ensures { (result ≡ ran_of text.now shift limit (length records.old / size_of g) from) × (records.new ≡ over (groups g (whole_run text.now shift limit (length records.old / size_of g) from).tokens) records.old) }
 {
     match record::checks(text, shift) {
-        Checked::Passed => {
+        Ok(()) => {
             let at = from.at;
             if utf8::is_boundary(text, at as usize) {
                 return store_all(text, shift, limit, records, g, from);
@@ -589,13 +576,14 @@ fn run_groups(
             let p = halted(0, off, from.count, from);
             p.ran
         }
-        Checked::Refused(r) => {
+        Err(r) => {
             let p = halted(0, Outcome::Refused(r), 0, from);
             p.ran
         }
     }
 }
 
+// Two names over one body, since the C functions are two.
 // A whole run into groups of five numbers: 01's kind, start, end, payload start, payload end.
 pub fn run_numbers(text: &[u8], shift: u64, limit: u64, records: &mut [u64], from: Tokenizer) -> Ran
     ensures { (result ≡ ran_of text.now shift limit (length records.old / group_size) from) × (records.new ≡ over (numbers_all (whole_run text.now shift limit (length records.old / group_size) from).tokens) records.old) }

@@ -6,31 +6,13 @@ ghost use Rattle.std.specs.Prelude.{◌≡◌, length};
 use commands::Said;
 use record::Reading;
 use run::Group;
-use text::Came;
-
-// What cannot be written is let go.
-fn say(rt: &impl Print, words: &[u8]) {
-    let _ = rt.write_all(words);
-}
-
-fn came(rt: &impl Print, buffer: &[u8], to: Came) {
-    match to {
-        Came::To(n) => {
-            if n <= buffer.len() {
-                say(rt, &buffer[..n]);
-            }
-        }
-        Came::Full => say(rt, b"(no room)\n"),
-    }
-}
+use shown::{came_or, say};
 
 // What is said for the two outputs.
 fn both(rt: &impl Print, said: Said, out: &[u8], err: &[u8]) {
-    let o = said.out;
-    let e = said.err;
-    came(rt, out, o);
+    came_or(rt, out, said.out, b"(no room)\n");
     say(rt, b"for people: ");
-    came(rt, err, e);
+    came_or(rt, err, said.err, b"(no room)\n");
     say(rt, b"\n");
 }
 

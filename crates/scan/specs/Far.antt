@@ -1,5 +1,5 @@
 -- Where a number of characters leads: over lists of characters (`Far`), and over the bytes of a text (`Lands`).
-use Rattle.std.specs.Prelude.{◌+◌, ◌-◌, ◌<◌, ◌≤◌, suc, zero, ℕ, Bool, drop, length}
+use Rattle.std.specs.Prelude.{◌+◌, ◌-◌, ◌<◌, ◌≤◌, suc, zero, ℕ, Bool, drop, length, Option, Some, None, Ok, Err}
 use Rattle.std.proofs.Common.{suc-le-suc, le_of_suc-le-suc, ◌∙◌, ap, sym}
 use native.Mathlib.Omega.{arith}
 use Rattle.std.proofs.Math.Bool.{false, true}
@@ -8,11 +8,8 @@ use Rattle.std.proofs.Math.Path.{◌≡◌, refl}
 use Rattle.utf8.proofs.Laws.{seen}
 use Rattle.utf8.specs.Laws.{Seen, ended}
 use Rattle.utf8.specs.Utf8.{chars, sight_at, width_of}
-use Rattle.utf8.specs.declared.Sight.{Sight}
-use Rattle.utf8.specs.declared.Sight.TheVariants.{Char, End}
 use Rattle.scan.specs.Until.{left, until}
-use Rattle.scan.specs.declared.Found.{Found}
-use Rattle.scan.specs.declared.Found.TheVariants.{At, Nothing}
+use Rattle.scan.specs.Shapes.{Found, same_err, same_ok}
 
 -- the place after k of the characters cs
 unfoldable pub after : ℕ → List ℕ → ℕ → ℕ
@@ -53,7 +50,7 @@ module _ {S : Type 0} (step : S → ℕ → S) (done : S → Bool) where
   module _ (p m : ℕ) where
     -- one turn, both ways: what the rest says, if it is asked
     turn : (c : ℕ) (cs : List ℕ) (st : S) (at n : ℕ) (r : Found) → until step done st (c ∷ cs) at n ≡ r
-        → (r ≡ At at n → done (step st c) ≡ true → Stops (c ∷ cs) at n m p)
+        → (r ≡ Ok (at, n) → done (step st c) ≡ true → Stops (c ∷ cs) at n m p)
         → (until step done (step st c) cs (at + width_of c) (n + 1) ≡ r → Stops cs (at + width_of c) (n + 1) m p)
         → Stops (c ∷ cs) at n m p
     unfolding until
@@ -63,18 +60,18 @@ module _ {S : Type 0} (step : S → ℕ → S) (done : S → Bool) where
         go true q = f (sym (rw (q, until) at e)) q
         go false q = stops_on c cs at n m p (g (rw (q, until) at e))
 
-    pub until_nothing : (cs : List ℕ) (st : S) (at n : ℕ) → until step done st cs at n ≡ Nothing p m → Stops cs at n m p
+    pub until_nothing : (cs : List ℕ) (st : S) (at n : ℕ) → until step done st cs at n ≡ Err (p, m) → Stops cs at n m p
     unfolding until
-    until_nothing [] st at n e = let q : at ≡ p = cc in let r : n ≡ m = cc in rw (← q, ← r) (stops_here [] at n)
+    until_nothing [] st at n e = let q = same_err _ _ _ _ e in rw (← q.0, ← q.1) (stops_here [] at n)
     until_nothing (c ∷ cs) st at n e =
-        turn c cs st at n (Nothing p m) e (λ u _. let z : ◌≡◌ {A = ℕ} 0 1 = cc in absurd (omega arith))
+        turn c cs st at n (Err (p, m)) e (λ u _. let z : ◌≡◌ {A = ℕ} 0 1 = cc in absurd (omega arith))
         (until_nothing cs (step st c) (at + width_of c) (n + 1))
 
-    pub until-before : (cs : List ℕ) (st : S) (at n : ℕ) → until step done st cs at n ≡ At p m → Stops cs at n m p
+    pub until-before : (cs : List ℕ) (st : S) (at n : ℕ) → until step done st cs at n ≡ Ok (p, m) → Stops cs at n m p
     unfolding until
     until-before [] st at n e = let z : ◌≡◌ {A = ℕ} 0 1 = cc in absurd (omega arith)
     until-before (c ∷ cs) st at n e =
-        turn c cs st at n (At p m) e (λ u _. let q : at ≡ p = cc in let r : n ≡ m = cc in rw (← q, ← r) (stops_here (c ∷ cs) at n))
+        turn c cs st at n (Ok (p, m)) e (λ u _. let q = same_ok _ _ _ _ u in rw (q.0, q.1) (stops_here (c ∷ cs) at n))
         (until-before cs (step st c) (at + width_of c) (n + 1))
 
 -- where the character that ends the reading is one byte wide, the place after it
@@ -84,18 +81,18 @@ module _ {S : Type 0} (step : S → ℕ → S) (done : S → Bool) (narrow : (st
       let q : suc (m - (n + 1) + 1) ≡ m - n + 1 = omega arith in
       (rw q at (far_one c cs at (m - (n + 1) + 1) (p + 1) h.0), omega arith)
 
-  pub until_past : (cs : List ℕ) (st : S) (at n : ℕ) → done st ≡ false → until step done st cs at n ≡ At p m → Far cs at (m - n + 1) (p + 1) × (n ≤ m)
+  pub until_past : (cs : List ℕ) (st : S) (at n : ℕ) → done st ≡ false → until step done st cs at n ≡ Ok (p, m) → Far cs at (m - n + 1) (p + 1) × (n ≤ m)
   unfolding until after
   until_past [] st at n b e = let z : ◌≡◌ {A = ℕ} 0 1 = cc in absurd (omega arith)
   until_past (c ∷ cs) st at n b e = go (done (step st c)) refl (until_past cs (step st c) (at + width_of c) (n + 1))
     where
       go : (d : Bool) → done (step st c) ≡ d
-          → (done (step st c) ≡ false → until step done (step st c) cs (at + width_of c) (n + 1) ≡ At p m → Far cs (at + width_of c) (m - (n + 1) + 1) (p + 1) × (n + 1 ≤ m))
+          → (done (step st c) ≡ false → until step done (step st c) cs (at + width_of c) (n + 1) ≡ Ok (p, m) → Far cs (at + width_of c) (m - (n + 1) + 1) (p + 1) × (n + 1 ≤ m))
           → Far (c ∷ cs) at (m - n + 1) (p + 1) × (n ≤ m)
       go true q f =
-          let u : At at n ≡ At p m = rw (q, until) at e in
-          let x : at ≡ p = cc in
-          let y : n ≡ m = cc in
+          let u : ◌≡◌ {A = Found} (Ok (at, n)) (Ok (p, m)) = rw (q, until) at e in
+          let x : at ≡ p = (same_ok _ _ _ _ u).0 in
+          let y : n ≡ m = (same_ok _ _ _ _ u).1 in
           let w : width_of c ≡ 1 = narrow st c b q in
           let z : 1 ≡ m - n + 1 = omega arith in
           (rw (← z) (record { within = omega arith; there = omega arith }), omega arith)
@@ -136,9 +133,9 @@ pub record Lands (s : List ℕ) (at m p : ℕ) : Type 0 where
 first : (s : List ℕ) (at : ℕ) → 0 < length (chars (drop at s)) → (k : ℕ) × (w : ℕ) × Seen s at k w
 first s at h = go (sight_at s at) refl
   where
-    go : (x : Sight) → sight_at s at ≡ x → (k : ℕ) × (w : ℕ) × Seen s at k w
-    go (Char k w) e = (k, w, seen s at k w e)
-    go End e = let q : length (chars (drop at s)) ≡ 0 = ap length (ended s at e).none in absurd (omega arith)
+    go : (x : Option (ℕ × ℕ)) → sight_at s at ≡ x → (k : ℕ) × (w : ℕ) × Seen s at k w
+    go (Some (k, w)) e = (k, w, seen s at k w e)
+    go None e = let q : length (chars (drop at s)) ≡ 0 = ap length (ended s at e).none in absurd (omega arith)
 
 lands_on : (s : List ℕ) (at k w m p : ℕ) → Seen s at k w → Lands s (at + w) m p → Lands s at (suc m) p
 unfolding after

@@ -1,5 +1,5 @@
 -- What the next character decides.
-use Rattle.std.specs.Prelude.{◌<◌, ℕ, Bool, List, [], ◌∷◌, refl, eqb, length}
+use Rattle.std.specs.Prelude.{◌<◌, ℕ, Bool, List, [], ◌∷◌, refl, eqb, length, Option, Some, None}
 use Rattle.std.proofs.Common.{arith, ◌∙◌, sym}
 use Rattle.std.proofs.Math.Bool.{cond, false, true}
 use Rattle.std.proofs.Math.Path.{◌≡◌}
@@ -7,8 +7,6 @@ use Rattle.utf8.proofs.Laws.{seen}
 use Rattle.utf8.specs.Laws.{Ended, Seen, ended}
 use Rattle.utf8.specs.Picks.{same}
 use Rattle.utf8.specs.Utf8.{sight_at}
-use Rattle.utf8.specs.declared.Sight.{Sight}
-use Rattle.utf8.specs.declared.Sight.TheVariants.{Char, End as SightEnd}
 use Rattle.scan.specs.Until.{left}
 
 -- by the next character, if there is one
@@ -59,9 +57,9 @@ pub next-room : (s : List ℕ) (at k : ℕ) → if_next k (left s at) true false
 unfolding if_next
 next-room s at k e = go (sight_at s at) refl
   where
-    go : (x : Sight) → sight_at s at ≡ x → at < length s
-    go (Char c w) q = let h = seen s at c w q in omega (arith, h.room, h.moves)
-    go SightEnd q = let z : false ≡ true = rw (ended s at q).none at e in let v : ◌≡◌ {A = ℕ} 0 1 = cc in absurd (omega arith)
+    go : (x : Option (ℕ × ℕ)) → sight_at s at ≡ x → at < length s
+    go (Some (c, w)) q = let h = seen s at c w q in omega (arith, h.room, h.moves)
+    go None q = let z : false ≡ true = rw (ended s at q).none at e in let v : ◌≡◌ {A = ℕ} 0 1 = cc in absurd (omega arith)
 
 pub flag : (b : Bool) → cond b true false ≡ b
 flag true = refl

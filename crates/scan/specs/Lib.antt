@@ -1,4 +1,5 @@
 -- what a reader must believe
+pub mod Shapes
 pub mod Until
 pub mod Readers
 pub mod IfNext

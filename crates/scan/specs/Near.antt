@@ -1,6 +1,6 @@
 -- A refusal's place lies from the start of what is refused up to the cursor.
 use Prim.Native.Nat.{ℕ, zero, suc, ◌+◌, ◌-◌, ◌≤◌, ◌<◌}
-use Rattle.std.proofs.Common.{arith}
+use Rattle.std.proofs.Common.{arith, Ok, Err}
 use Rattle.std.specs.Prelude.{Bool, true, false, cond, ◌≡◌, eqb, ltb, length}
 use mathlib.Core.List.{List, [], ◌∷◌}
 use Rattle.std.proofs.Math.Path.{refl}
@@ -18,10 +18,8 @@ use Rattle.scan.specs.Seek.{seek, skip_more, string_skip, block_comment, regex_s
 use Rattle.scan.specs.Steps.{reg_less}
 use Rattle.scan.specs.Until.{until}
 use Rattle.scan.specs.Walk.{turn_of, walk, walk_from}
-use Rattle.scan.specs.declared.Found.{Found}
-use Rattle.scan.specs.declared.Found.TheVariants.{At, Nothing}
-use Rattle.scan.specs.declared.Skip.{Skip}
-use Rattle.scan.specs.declared.Skip.TheVariants.{Lost, Past}
+use Rattle.scan.specs.Shapes.{Found, same_ok}
+use Rattle.scan.specs.Shapes.{Skip}
 use Rattle.scan.specs.declared.Sought.{Sought}
 use Rattle.scan.specs.declared.Turn.{Turn}
 use Rattle.scan.specs.declared.Turn.TheVariants.{Fail, Pass, Stop}
@@ -44,8 +42,8 @@ far_on cs at m p f = let h = after_on m cs at f.within in omega (arith, f.there)
 
 -- of a reader's answer, what starts at o
 abbrev NearIn : ℕ → Skip → Type 0
-NearIn o (Past p m) = o ≤ p
-NearIn o (Lost r p m) = (o ≤ r.place) × (r.place ≤ p)
+NearIn o (Ok (p, m)) = o ≤ p
+NearIn o (Err (r, p, m)) = (o ≤ r.place) × (r.place ≤ p)
 
 pub record Near (o : ℕ) (x : Skip) : Type 0 where
   pub is : NearIn o x
@@ -60,20 +58,20 @@ module _ (o : ℕ) where
   near_next k [] x y p q = q
   near_next k (c ∷ l) x y p q = near_test (eqb c k) x y p q
 
-  pub near_past : (p m : ℕ) → o ≤ p → Near o (Past p m)
+  pub near_past : (p m : ℕ) → o ≤ p → Near o (Ok (p, m))
   near_past p m h = record { is = h }
 
-  pub near_lost : (code : Code) (q p m : ℕ) → o ≤ q → q ≤ p → Near o (Lost (refusal code q) p m)
+  pub near_lost : (code : Code) (q p m : ℕ) → o ≤ q → q ≤ p → Near o (Err (refusal code q, p, m))
   near_lost code q p m g h = record { is = (g, h) }
 
   pub near_more : (n : ℕ) (x : Skip) → Near o x → Near o (skip_more n x)
-  near_more n (Past p m) h = record { is = h.is }
-  near_more n (Lost r p m) h = record { is = h.is }
+  near_more n (Ok (p, m)) h = record { is = h.is }
+  near_more n (Err (r, p, m)) h = record { is = h.is }
 
   -- what is closed or refused as a whole, from a place at or after o
   pub near_through : (code : Code) (cs : List ℕ) (at : ℕ) (f : Found) → o ≤ at → Sound cs at (through code o f) → Near o (through code o f)
-  near_through code cs at (At p m) h s = record { is = (let g = far_on cs at (m + 1) (p + 1) s.is in omega arith) }
-  near_through code cs at (Nothing p m) h s = record { is = (omega arith, (let g = far_on cs at m p s.is in omega arith)) }
+  near_through code cs at (Ok (p, m)) h s = record { is = (let g = far_on cs at (m + 1) (p + 1) s.is in omega arith) }
+  near_through code cs at (Err (p, m)) h s = record { is = (omega arith, (let g = far_on cs at m p s.is in omega arith)) }
 
   module _ (cs : List ℕ) (at : ℕ) (h : o ≤ at) where
     pub string_near : Near o (string_skip o cs at)
@@ -89,12 +87,12 @@ module _ (o : ℕ) where
     upto_near k = go (seek k cs at) (upto_sound k cs at)
       where
         go : (f : Found) → Sound cs at (up_to f) → Near o (up_to f)
-        go (At p m) s = record { is = (let g = far_on cs at m p s.is in omega arith) }
-        go (Nothing p m) s = record { is = (let g = far_on cs at m p s.is in omega arith) }
+        go (Ok (p, m)) s = record { is = (let g = far_on cs at m p s.is in omega arith) }
+        go (Err (p, m)) s = record { is = (let g = far_on cs at m p s.is in omega arith) }
 
 pub near_lower : (o q : ℕ) (x : Skip) → o ≤ q → Near q x → Near o x
-near_lower o q (Past p m) h n = let g = n.is in record { is = omega arith }
-near_lower o q (Lost r p m) h n = let g = n.is in record { is = (omega arith, g.1) }
+near_lower o q (Ok (p, m)) h n = let g = n.is in record { is = omega arith }
+near_lower o q (Err (r, p, m)) h n = let g = n.is in record { is = (omega arith, g.1) }
 
 -- of a turn, what starts at o
 abbrev NearTurnIn : ℕ → Turn → Type 0
@@ -117,8 +115,8 @@ module _ (o : ℕ) where
   turn_pass p m b = record { is = tt }
 
   pub turn_near : (b : ℕ) (x : Skip) → Near o x → NearTurn o (turn_of b x)
-  turn_near b (Past p m) h = record { is = tt }
-  turn_near b (Lost r p m) h = record { is = h.is }
+  turn_near b (Ok (p, m)) h = record { is = tt }
+  turn_near b (Err (r, p, m)) h = record { is = h.is }
 
 pub ruleset near_turns = (turn-test, turn-stop, turn_pass, turn_near)
 
@@ -151,17 +149,17 @@ reg_closed h st e = go (eqb st 0) refl
     go true q = let z : false ≡ true = rw q at e in let w : ◌≡◌ {A = ℕ} 0 1 = cc in absurd (omega arith)
     go false q = let z : eqb (st - 1) h ≡ true = rw q at e in omega tests
 
-regex_from : (h q m : ℕ) (cs : List ℕ) (st at n : ℕ) → st ≤ n → until reg_step (reg_done h) st cs at n ≡ At q m → h ≤ m
+regex_from : (h q m : ℕ) (cs : List ℕ) (st at n : ℕ) → st ≤ n → until reg_step (reg_done h) st cs at n ≡ Ok (q, m) → h ≤ m
 unfolding until
 regex_from h q m [] st at n l e = let z : ◌≡◌ {A = ℕ} 0 1 = cc in absurd (omega arith)
 regex_from h q m (c ∷ cs) st at n l e = go (reg_done h (reg_step st c)) refl (regex_from h q m cs (reg_step st c) (at + width_of c) (n + 1))
   where
-    go : (d : Bool) → reg_done h (reg_step st c) ≡ d → (reg_step st c ≤ n + 1 → until reg_step (reg_done h) (reg_step st c) cs (at + width_of c) (n + 1) ≡ At q m → h ≤ m) → h ≤ m
+    go : (d : Bool) → reg_done h (reg_step st c) ≡ d → (reg_step st c ≤ n + 1 → until reg_step (reg_done h) (reg_step st c) cs (at + width_of c) (n + 1) ≡ Ok (q, m) → h ≤ m) → h ≤ m
     go true d f =
-        let u : At at n ≡ At q m = rw (d, until) at e in
-        let y : n ≡ m = cc in
+        let u : ◌≡◌ {A = Found} (Ok (at, n)) (Ok (q, m)) = rw (d, until) at e in
+        let y : n ≡ m = (same_ok _ _ _ _ u).1 in
         omega (arith, reg_closed h (reg_step st c) d, reg_less st c)
     go false d f = f (omega (arith, reg_less st c)) (rw (d, until) at e)
 
-pub regex_long : (h : ℕ) (cs : List ℕ) (at q m : ℕ) → regex_end h cs at ≡ At q m → h ≤ m
+pub regex_long : (h : ℕ) (cs : List ℕ) (at q m : ℕ) → regex_end h cs at ≡ Ok (q, m) → h ≤ m
 regex_long h cs at q m e = regex_from h q m cs 0 at 0 (omega arith) e

@@ -1,6 +1,6 @@
 -- What each reader passes leads to the place that it answers.
 use Prim.Native.Nat.{◌+◌, ◌-◌, ◌≤◌, suc, zero, ℕ}
-use Rattle.std.proofs.Common.{arith, ◌∙◌, ap, sym, eqb-true}
+use Rattle.std.proofs.Common.{arith, ◌∙◌, ap, sym, eqb-true, Ok, Err}
 use Rattle.std.specs.Prelude.{Bool, cond, true, ◌≡◌, eqb, drop, length}
 use Rattle.std.proofs.Math.Bool.{false}
 use mathlib.Core.List.{List, [], ◌∷◌}
@@ -17,10 +17,8 @@ use Rattle.scan.specs.Steps.{com_narrow, reg_narrow, str_narrow}
 use Rattle.scan.specs.Until.{left}
 use Rattle.scan.specs.Walk.{turn_of, walk, walk_from}
 use Rattle.scan.specs.declared.Com.TheVariants.{Open}
-use Rattle.scan.specs.declared.Found.{Found}
-use Rattle.scan.specs.declared.Found.TheVariants.{At, Nothing}
-use Rattle.scan.specs.declared.Skip.{Skip}
-use Rattle.scan.specs.declared.Skip.TheVariants.{Lost, Past}
+use Rattle.scan.specs.Shapes.{Found}
+use Rattle.scan.specs.Shapes.{Skip}
 use Rattle.scan.specs.declared.Sought.{Sought}
 use Rattle.scan.specs.declared.Sought.TheVariants.{Backtick, Quote}
 use Rattle.scan.specs.declared.Str.TheVariants.{Plain}
@@ -31,54 +29,54 @@ pub seek_narrow : (k : Sought) (j : ℕ) → ((c : ℕ) → seek_done (seek_step
 seek_narrow k j f w st c b e = ap width_of (eqb-true c j (sym (f c) ∙ e)) ∙ w
 
 module _ (cs : List ℕ) (at p m : ℕ) where
-  pub string_past : (q : ℕ) → width_of q ≡ 1 → string_end q cs at ≡ At p m → Far cs at (m + 1) (p + 1)
+  pub string_past : (q : ℕ) → width_of q ≡ 1 → string_end q cs at ≡ Ok (p, m) → Far cs at (m + 1) (p + 1)
   string_past q w e = past_0 cs at m (p + 1) (until_past (str_step q) str_done (str_narrow q w) p m cs Plain at 0 refl e)
 
-  pub string_none : (q : ℕ) → string_end q cs at ≡ Nothing p m → Far cs at m p
+  pub string_none : (q : ℕ) → string_end q cs at ≡ Err (p, m) → Far cs at m p
   string_none q e = from_0 cs at m p (until_nothing (str_step q) str_done p m cs Plain at 0 e)
 
-  pub comment_past : comment_end cs at ≡ At p m → Far cs at (m + 1) (p + 1)
+  pub comment_past : comment_end cs at ≡ Ok (p, m) → Far cs at (m + 1) (p + 1)
   comment_past e = past_0 cs at m (p + 1) (until_past com_step com_done com_narrow p m cs (Open 1) at 0 refl e)
 
-  pub comment_none : comment_end cs at ≡ Nothing p m → Far cs at m p
+  pub comment_none : comment_end cs at ≡ Err (p, m) → Far cs at m p
   comment_none e = from_0 cs at m p (until_nothing com_step com_done p m cs (Open 1) at 0 e)
 
-  pub regex_past : (h : ℕ) → regex_end h cs at ≡ At p m → Far cs at (m + 1) (p + 1)
+  pub regex_past : (h : ℕ) → regex_end h cs at ≡ Ok (p, m) → Far cs at (m + 1) (p + 1)
   regex_past h e = past_0 cs at m (p + 1) (until_past reg_step (reg_done h) (reg_narrow h) p m cs 0 at 0 refl e)
 
-  pub regex_none : (h : ℕ) → regex_end h cs at ≡ Nothing p m → Far cs at m p
+  pub regex_none : (h : ℕ) → regex_end h cs at ≡ Err (p, m) → Far cs at m p
   regex_none h e = from_0 cs at m p (until_nothing reg_step (reg_done h) p m cs 0 at 0 e)
 
-  pub seek-at : (k : Sought) → seek k cs at ≡ At p m → Far cs at m p
+  pub seek-at : (k : Sought) → seek k cs at ≡ Ok (p, m) → Far cs at m p
   seek-at k e = from_0 cs at m p (until-before (seek_step k) seek_done p m cs false at 0 e)
 
-  pub seek-none : (k : Sought) → seek k cs at ≡ Nothing p m → Far cs at m p
+  pub seek-none : (k : Sought) → seek k cs at ≡ Err (p, m) → Far cs at m p
   seek-none k e = from_0 cs at m p (until_nothing (seek_step k) seek_done p m cs false at 0 e)
 
-  pub quote_past : seek Quote cs at ≡ At p m → Far cs at (m + 1) (p + 1)
+  pub quote_past : seek Quote cs at ≡ Ok (p, m) → Far cs at (m + 1) (p + 1)
   unfolding width_of
   quote_past e = past_0 cs at m (p + 1) (until_past (seek_step Quote) seek_done (seek_narrow Quote 'quote (λ c. refl) refl) p m cs false at 0 refl e)
 
-  pub backtick_past : seek Backtick cs at ≡ At p m → Far cs at (m + 1) (p + 1)
+  pub backtick_past : seek Backtick cs at ≡ Ok (p, m) → Far cs at (m + 1) (p + 1)
   unfolding width_of
   backtick_past e = past_0 cs at m (p + 1) (until_past (seek_step Backtick) seek_done (seek_narrow Backtick 'backtick (λ c. refl) refl) p m cs false at 0 refl e)
 
 -- an answer that passes m characters leads to its place
 abbrev pub SoundIn : List ℕ → ℕ → Skip → Type 0
-SoundIn cs at (Past p m) = Far cs at m p
-SoundIn cs at (Lost r p m) = Far cs at m p
+SoundIn cs at (Ok (p, m)) = Far cs at m p
+SoundIn cs at (Err (r, p, m)) = Far cs at m p
 
 pub record Sound (cs : List ℕ) (at : ℕ) (x : Skip) : Type 0 where
   pub is : SoundIn cs at x
 
 -- how many characters an answer has passed: no more than there are
 abbrev pub passed_of : Skip → ℕ
-passed_of (Past p m) = m
-passed_of (Lost r p m) = m
+passed_of (Ok (p, m)) = m
+passed_of (Err (r, p, m)) = m
 
 pub sound_passed : (cs : List ℕ) (at : ℕ) (x : Skip) → Sound cs at x → passed_of x ≤ length cs
-sound_passed cs at (Past p m) h = h.is.within
-sound_passed cs at (Lost r p m) h = h.is.within
+sound_passed cs at (Ok (p, m)) h = h.is.within
+sound_passed cs at (Err (r, p, m)) h = h.is.within
 
 pub sound_fits : (s : List ℕ) (at : ℕ) {x y : Skip} → x ≡ y → Sound (left s at) at y → passed_of x ≤ length s
 sound_fits s at {x} {y} e h = omega (arith, ap passed_of e, sound_passed (left s at) at y h, fits s at)
@@ -87,19 +85,19 @@ pub sound_test : (cs : List ℕ) (at : ℕ) (t : Bool) (x y : Skip) → Sound cs
 sound_test cs at true x y p q = p
 sound_test cs at false x y p q = q
 
-pub sound_here : (cs : List ℕ) (at : ℕ) → Sound cs at (Past at 0)
+pub sound_here : (cs : List ℕ) (at : ℕ) → Sound cs at (Ok (at, 0))
 sound_here cs at = record { is = far_none cs at }
 
-pub sound_lost : (r : Refusal) (cs : List ℕ) (at : ℕ) → Sound cs at (Lost r at 0)
+pub sound_lost : (r : Refusal) (cs : List ℕ) (at : ℕ) → Sound cs at (Err (r, at, 0))
 sound_lost r cs at = record { is = far_none cs at }
 
 pub sound_more : (m : ℕ) (cs : List ℕ) (at p : ℕ) (x : Skip) → Far cs at m p → Sound (drop m cs) p x → Sound cs at (skip_more m x)
-sound_more m cs at p (Past q j) f h = record { is = then m cs at p j q f h.is }
-sound_more m cs at p (Lost r q j) f h = record { is = then m cs at p j q f h.is }
+sound_more m cs at p (Ok (q, j)) f h = record { is = then m cs at p j q f h.is }
+sound_more m cs at p (Err (r, q, j)) f h = record { is = then m cs at p j q f h.is }
 
 pub sound_one : (c : ℕ) (cs : List ℕ) (at : ℕ) (x : Skip) → Sound cs (at + width_of c) x → Sound (c ∷ cs) at (skip_more 1 x)
-sound_one c cs at (Past q j) h = record { is = one_more c cs at j q h.is }
-sound_one c cs at (Lost r q j) h = record { is = one_more c cs at j q h.is }
+sound_one c cs at (Ok (q, j)) h = record { is = one_more c cs at j q h.is }
+sound_one c cs at (Err (r, q, j)) h = record { is = one_more c cs at j q h.is }
 
 pub sound_next : (k : ℕ) (cs : List ℕ) (at : ℕ) (l : List ℕ) (x y : Skip) → Sound cs at x → Sound cs at y → Sound cs at (if_next k l x y)
 unfolding if_next
@@ -107,10 +105,10 @@ sound_next k cs at [] x y p q = q
 sound_next k cs at (c ∷ l) x y p q = sound_test cs at (eqb c k) x y p q
 
 -- what is closed, or never closed, leads to its place
-pub through_sound : (code : Code) (o : ℕ) (cs : List ℕ) (at : ℕ) (f : Found) → ((p m : ℕ) → f ≡ At p m → Far cs at (m + 1) (p + 1)) → ((p m : ℕ) → f ≡ Nothing p m → Far cs at m p)
+pub through_sound : (code : Code) (o : ℕ) (cs : List ℕ) (at : ℕ) (f : Found) → ((p m : ℕ) → f ≡ Ok (p, m) → Far cs at (m + 1) (p + 1)) → ((p m : ℕ) → f ≡ Err (p, m) → Far cs at m p)
     → Sound cs at (through code o f)
-through_sound code o cs at (At p m) a b = record { is = a p m refl }
-through_sound code o cs at (Nothing p m) a b = record { is = b p m refl }
+through_sound code o cs at (Ok (p, m)) a b = record { is = a p m refl }
+through_sound code o cs at (Err (p, m)) a b = record { is = b p m refl }
 
 pub string_sound : (o : ℕ) (cs : List ℕ) (at : ℕ) → Sound cs at (string_skip o cs at)
 unfolding width_of
@@ -126,8 +124,8 @@ pub upto_sound : (k : Sought) (cs : List ℕ) (at : ℕ) → Sound cs at (up_to 
 upto_sound k cs at = go (seek k cs at) refl
   where
     go : (f : Found) → seek k cs at ≡ f → Sound cs at (up_to f)
-    go (At p m) e = record { is = seek-at cs at p m k e }
-    go (Nothing p m) e = record { is = seek-none cs at p m k e }
+    go (Ok (p, m)) e = record { is = seek-at cs at p m k e }
+    go (Err (p, m)) e = record { is = seek-none cs at p m k e }
 
 -- a turn that passes, or fails, leads to its place
 abbrev pub GoodIn : List ℕ → ℕ → Turn → Type 0
@@ -143,8 +141,8 @@ good_test cs at true x y p q = p
 good_test cs at false x y p q = q
 
 pub good_skip : (b : ℕ) (cs : List ℕ) (at : ℕ) (x : Skip) → Sound cs at x → Good cs at (turn_of b x)
-good_skip b cs at (Past p m) h = record { is = h.is }
-good_skip b cs at (Lost r p m) h = record { is = h.is }
+good_skip b cs at (Ok (p, m)) h = record { is = h.is }
+good_skip b cs at (Err (r, p, m)) h = record { is = h.is }
 
 pub good_stop : (cs : List ℕ) (at : ℕ) → Good cs at Stop
 good_stop cs at = record { is = tt }
@@ -168,8 +166,8 @@ balance_test b true x y p q = p
 balance_test b false x y p q = q
 
 pub balance_skip : (b : ℕ) (x : Skip) → Balance b (turn_of b x)
-balance_skip b (Past p m) = record { is = omega arith }
-balance_skip b (Lost r p m) = record { is = tt }
+balance_skip b (Ok (p, m)) = record { is = omega arith }
+balance_skip b (Err (r, p, m)) = record { is = tt }
 
 pub balance_stop : (b : ℕ) → Balance b Stop
 balance_stop b = record { is = tt }
@@ -187,20 +185,20 @@ pub ruleset balances = (balance_test, balance_skip, balance_stop, balance_same, 
 
 -- a walk whose turns are good leads to its place
 abbrev pub FromIn : List ℕ → ℕ → ℕ → Skip → Type 0
-FromIn cs at n (Past p m) = Stops cs at n m p
-FromIn cs at n (Lost r p m) = Stops cs at n m p
+FromIn cs at n (Ok (p, m)) = Stops cs at n m p
+FromIn cs at n (Err (r, p, m)) = Stops cs at n m p
 
 pub record From (cs : List ℕ) (at n : ℕ) (x : Skip) : Type 0 where
   pub is : FromIn cs at n x
 
 pub from_on : (c : ℕ) (cs : List ℕ) (at n : ℕ) (x : Skip) → From cs (at + width_of c) (n + 1) x → From (c ∷ cs) at n x
-from_on c cs at n (Past p m) h = record { is = stops_on c cs at n m p h.is }
-from_on c cs at n (Lost r p m) h = record { is = stops_on c cs at n m p h.is }
+from_on c cs at n (Ok (p, m)) h = record { is = stops_on c cs at n m p h.is }
+from_on c cs at n (Err (r, p, m)) h = record { is = stops_on c cs at n m p h.is }
 
-pub from_past : (cs : List ℕ) (at n : ℕ) → From cs at n (Past at n)
+pub from_past : (cs : List ℕ) (at n : ℕ) → From cs at n (Ok (at, n))
 from_past cs at n = record { is = stops_here cs at n }
 
-pub from_lost : (r : Refusal) (cs : List ℕ) (at n : ℕ) → From cs at n (Lost r at n)
+pub from_lost : (r : Refusal) (cs : List ℕ) (at n : ℕ) → From cs at n (Err (r, at, n))
 from_lost r cs at n = record { is = stops_here cs at n }
 
 pub from-test : (cs : List ℕ) (at n : ℕ) (t : Bool) (x y : Skip) → From cs at n x → From cs at n y → From cs at n (cond t x y)
@@ -228,5 +226,5 @@ module _ (see : ℕ → ℕ → List ℕ → ℕ → ℕ → Turn) (last : ℕ �
   walk_sound b cs at = go (walk see last b cs at) refl
     where
       go : (x : Skip) → walk see last b cs at ≡ x → Sound cs at x
-      go (Past p m) e = record { is = from_0 cs at m p (rw e at (walk_from_lem 0 cs b at 0)).is }
-      go (Lost r p m) e = record { is = from_0 cs at m p (rw e at (walk_from_lem 0 cs b at 0)).is }
+      go (Ok (p, m)) e = record { is = from_0 cs at m p (rw e at (walk_from_lem 0 cs b at 0)).is }
+      go (Err (r, p, m)) e = record { is = from_0 cs at m p (rw e at (walk_from_lem 0 cs b at 0)).is }

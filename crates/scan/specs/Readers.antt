@@ -4,7 +4,7 @@ use Rattle.utf8.specs.Chars.{'#, '*, '/, 'backslash, 'dquote}
 use Rattle.scan.specs.Until.{until}
 use Rattle.scan.specs.declared.Com.{Com}
 use Rattle.scan.specs.declared.Com.TheVariants.{Complete, Open, Slash, Star}
-use Rattle.scan.specs.declared.Found.{Found}
+use Rattle.scan.specs.Shapes.{Found}
 use Rattle.scan.specs.declared.Str.{Str}
 use Rattle.scan.specs.declared.Str.TheVariants.{Closed, Escaped, Plain}
 

@@ -1,5 +1,5 @@
 -- The first character of a sort, and the readers that code and gaps share: the rest of a line, block comments, strings.
-use Rattle.std.specs.Prelude.{◌+◌, ℕ, Bool, false, not, List, eqb}
+use Rattle.std.specs.Prelude.{◌+◌, ℕ, Bool, false, not, List, eqb, Ok, Err}
 use Rattle.utf8.specs.Chars.{'#, 'backtick, 'dquote, 'newline, 'quote}
 use Rattle.unicode_xid.specs.Identifier.{is_identifier_continue}
 use Rattle.record.specs.Records.{refusal}
@@ -7,10 +7,8 @@ use Rattle.record.specs.declared.Code.{Code}
 use Rattle.record.specs.declared.Code.TheVariants.{UnterminatedBlockComment, UnterminatedStringLiteral}
 use Rattle.scan.specs.Readers.{comment_end, regex_end, string_end}
 use Rattle.scan.specs.Until.{until}
-use Rattle.scan.specs.declared.Found.{Found}
-use Rattle.scan.specs.declared.Found.TheVariants.{At, Nothing}
-use Rattle.scan.specs.declared.Skip.{Skip}
-use Rattle.scan.specs.declared.Skip.TheVariants.{Lost, Past}
+use Rattle.scan.specs.Shapes.{Found}
+use Rattle.scan.specs.Shapes.{Skip}
 use Rattle.scan.specs.declared.Sought.{Sought}
 use Rattle.scan.specs.declared.Sought.TheVariants.{Backtick, Hashes, Newline, Quote, Word}
 
@@ -34,8 +32,8 @@ seek k cs at = until (seek_step k) seek_done false cs at 0
 
 -- up to there, or to the end of the text
 abbrev pub up_to : Found → Skip
-up_to (At p m) = Past p m
-up_to (Nothing p m) = Past p m
+up_to (Ok (p, m)) = Ok (p, m)
+up_to (Err (p, m)) = Ok (p, m)
 
 -- 01: "`//` up to but not including newline or end"
 abbrev pub line_skip : List ℕ → ℕ → Skip
@@ -43,8 +41,8 @@ line_skip cs at = up_to (seek Newline cs at)
 
 -- through the one character that closes what starts at o; or that it is never closed
 abbrev pub through : Code → ℕ → Found → Skip
-through code o (At p m) = Past (p + 1) (m + 1)
-through code o (Nothing p m) = Lost (refusal code o) p m
+through code o (Ok (p, m)) = Ok (p + 1, m + 1)
+through code o (Err (p, m)) = Err (refusal code o, p, m)
 
 -- after the opening quote of a string that starts at o: through its closing quote. 01: "5 exactly if there is none"
 abbrev pub string_skip : ℕ → List ℕ → ℕ → Skip
@@ -60,5 +58,5 @@ regex_skip o h cs at = through UnterminatedStringLiteral o (regex_end h cs at)
 
 -- the same with n characters passed before it
 abbrev pub skip_more : ℕ → Skip → Skip
-skip_more n (Past p m) = Past p (n + m)
-skip_more n (Lost r p m) = Lost r p (n + m)
+skip_more n (Ok (p, m)) = Ok (p, n + m)
+skip_more n (Err (r, p, m)) = Err (r, p, n + m)

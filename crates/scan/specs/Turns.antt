@@ -1,6 +1,6 @@
 -- A walk, turn by turn: what a loop over it cites.
 use Prim.Native.Nat.{◌+◌, ◌≤◌, suc, zero, ℕ}
-use Rattle.std.proofs.Common.{le_of_suc-le-suc, ◌∙◌, sym}
+use Rattle.std.proofs.Common.{le_of_suc-le-suc, ◌∙◌, sym, Ok, Err}
 use native.Mathlib.Omega.{arith}
 use mathlib.Core.List.{List, [], ◌∷◌}
 use Rattle.std.specs.Prelude.{◌≡◌, drop, length}
@@ -11,8 +11,7 @@ use Rattle.record.specs.declared.Refusal.{Refusal}
 use Rattle.scan.specs.Far.{Lands, after}
 use Rattle.scan.specs.Until.{left}
 use Rattle.scan.specs.Walk.{walk_from}
-use Rattle.scan.specs.declared.Skip.{Skip}
-use Rattle.scan.specs.declared.Skip.TheVariants.{Lost, Past}
+use Rattle.scan.specs.Shapes.{Skip}
 use Rattle.scan.specs.declared.Turn.{Turn}
 use Rattle.scan.specs.declared.Turn.TheVariants.{Fail, Pass, Stop}
 
@@ -30,11 +29,11 @@ module _ (see : ℕ → ℕ → List ℕ → ℕ → ℕ → Turn) (last : ℕ �
     own : (r : Turn) → see b k (left s (at + w)) at (at + w) ≡ r → see b k (left s (at + w)) at (at + width_of k) ≡ r
     own r e = ap (λ (v : ℕ). see b k (left s (at + w)) at (at + v)) (sym h.width) ∙ e
 
-    pub walk-stop : see b k (left s (at + w)) at (at + w) ≡ Stop → walk_from see last 0 (left s at) b at n ≡ Past at n
+    pub walk-stop : see b k (left s (at + w)) at (at + w) ≡ Stop → walk_from see last 0 (left s at) b at n ≡ Ok (at, n)
     unfolding walk_from
     walk-stop e = rw h.next (rw (own Stop e, walk_from))
 
-    pub walk-fail : {r : Refusal} {p m : ℕ} → see b k (left s (at + w)) at (at + w) ≡ Fail r p m → walk_from see last 0 (left s at) b at n ≡ Lost r p (n + 1 + m)
+    pub walk-fail : {r : Refusal} {p m : ℕ} → see b k (left s (at + w)) at (at + w) ≡ Fail r p m → walk_from see last 0 (left s at) b at n ≡ Err (r, p, n + 1 + m)
     unfolding walk_from
     walk-fail {r} {p} {m} e = rw h.next (rw (own (Fail r p m) e, walk_from))
 

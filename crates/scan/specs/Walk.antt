@@ -1,8 +1,7 @@
 -- Reading on from character to character, where a character may cover some that follow it: those are passed unseen.
-use Rattle.std.specs.Prelude.{◌+◌, suc, zero, ℕ, List, [], ◌∷◌}
+use Rattle.std.specs.Prelude.{◌+◌, suc, zero, ℕ, List, [], ◌∷◌, Ok, Err}
 use Rattle.utf8.specs.Utf8.{width_of}
-use Rattle.scan.specs.declared.Skip.{Skip}
-use Rattle.scan.specs.declared.Skip.TheVariants.{Lost, Past}
+use Rattle.scan.specs.Shapes.{Skip}
 use Rattle.scan.specs.declared.Turn.{Turn}
 use Rattle.scan.specs.declared.Turn.TheVariants.{Fail, Pass, Stop}
 
@@ -12,8 +11,8 @@ module _ (see : ℕ → ℕ → List ℕ → ℕ → ℕ → Turn) (last : ℕ �
   walk_from k [] b at n = last b at n
   walk_from zero (c ∷ cs) b at n =
       elim (see b c cs at (at + width_of c)) [
-        | Stop ↦ Past at n
-        | Fail r p m ↦ Lost r p (n + 1 + m)
+        | Stop ↦ Ok (at, n)
+        | Fail r p m ↦ Err (r, p, n + 1 + m)
         | Pass p m b' ↦ walk_from m cs b' (at + width_of c) (n + 1)
       ]
   walk_from (suc k) (c ∷ cs) b at n = walk_from k cs b (at + width_of c) (n + 1)
@@ -23,5 +22,5 @@ module _ (see : ℕ → ℕ → List ℕ → ℕ → ℕ → Turn) (last : ℕ �
 
 -- what a cover passed, in a walk's state b
 abbrev pub turn_of : ℕ → Skip → Turn
-turn_of b (Past p m) = Pass p m b
-turn_of b (Lost r p m) = Fail r p m
+turn_of b (Ok (p, m)) = Pass p m b
+turn_of b (Err (r, p, m)) = Fail r p m

@@ -1,12 +1,12 @@
 // Readers with no reader inside: the Rust's `take_until` and its family, a loop for each closure that it is given. Each goes over the
-// characters from a place, and answers the place of the character that ends what it reads, with the number of characters passed.
+// characters from a place, and answers the place of the character that ends what it reads, with the number of characters passed. They are loops:
+// the step is as wide as the character, and each keeps a state with a bound of its own, which one loop over a closure would ask of every caller.
 #![tactic(auto)]
 
-mod runs;
+pub mod runs;
 
 ghost use Rattle.std.specs.Prelude.{◌≡◌, true, false, ℕ, ◌≤◌, ◌+◌, ◌-◌, ◌<◌, length, drop};
 ghost use Rattle.utf8.specs.Utf8.{chars};
-ghost use Rattle.scan.specs.declared.Found.TheVariants.{At};
 ghost use Rattle.scan.specs.Readers.{str_step, str_done, string_end, com_step, com_done, depth_of, comment_end, reg_step, reg_done, regex_end};
 ghost use Rattle.scan.specs.Deepens.{com_run};
 ghost use Rattle.scan.specs.Depth.{comment_depth, deeper};
@@ -16,13 +16,10 @@ ghost use Rattle.scan.specs.Seek.{stop_at, seek, up_to, through, string_skip, bl
 ghost use Rattle.scan.specs.Walk.{turn_of};
 
 use record::{Code, Refusal};
-use utf8::{Sight, signs};
+use utf8::signs;
 
-#[derive(Clone, Copy)]
-pub enum Found {
-    At { place: usize, passed: usize },
-    Nothing { place: usize, passed: usize },
-}
+// Where what is sought stands, or where the text ends without it, as `binary_search` tells both; with the characters passed on the way there.
+pub type Found = Result<(usize, usize), (usize, usize)>;
 
 // What a run of characters stops at: the closures without a state.
 #[derive(Clone, Copy)]
@@ -35,11 +32,7 @@ pub enum Sought {
 }
 
 // What a reader passes: up to a place, with a number of characters; or a refusal, with the cursor and the characters passed till then.
-#[derive(Clone, Copy)]
-pub enum Skip {
-    Past(usize, usize),
-    Lost(Refusal, usize, usize),
-}
+pub type Skip = Result<(usize, usize), (Refusal, usize, usize)>;
 
 // What a character does to a walk: it ends it; what it starts is refused; or it goes on at a place, characters passed, in a state.
 #[derive(Clone, Copy)]
@@ -49,17 +42,10 @@ pub enum Turn {
     Pass(usize, usize, usize),
 }
 
-// What a reader of characters that may hold block comments passes, and the greatest depth of those.
+// What a reader of characters that may hold block comments answers, and the greatest depth of those; 0 if there are none.
 #[derive(Clone, Copy)]
-pub struct Deep {
-    pub skip: Skip,
-    pub depth: usize,
-}
-
-// What a character does to a walk, and the greatest depth of the block comment that it starts; 0 if it starts none.
-#[derive(Clone, Copy)]
-pub struct Turned {
-    pub turn: Turn,
+pub struct Deep<T> {
+    pub what: T,
     pub depth: usize,
 }
 
@@ -109,22 +95,16 @@ pub fn string_end(s: &[u8], from: usize, quote: u32) -> Found
     let mut st = Str::Plain;
     loop {
         match utf8::char_at(s, at) {
-            Sight::Char { code, width } => {
+            Some((code, width)) => {
                 st = str_step(quote, st, code);
                 if str_done(st) {
-                    return Found::At {
-                        place: at,
-                        passed: n,
-                    };
+                    return Ok((at, n));
                 }
                 at += width;
                 n += 1;
             }
-            Sight::End => {
-                return Found::Nothing {
-                    place: at,
-                    passed: n,
-                };
+            None => {
+                return Err((at, n));
             }
         }
     }
@@ -223,16 +203,9 @@ fn com_run(s: &[u8], at: usize, st: Com) -> usize
     }
 }
 
-// What a block comment's reader answers: its end, and how many comments were open at most.
-#[derive(Clone, Copy)]
-pub struct Commented {
-    pub end: Found,
-    pub depth: usize,
-}
-
 // `block_comment`: the slash that closes the comment whose opening mark ends before a place, and the comment's greatest depth.
-pub fn comment_end(s: &[u8], from: usize) -> Commented
-    ensures { (result.end ≡ comment_end (chars (drop from s.now)) from) × (result.depth ≡ comment_depth (chars (drop from s.now))) }
+pub fn comment_end(s: &[u8], from: usize) -> Deep<Found>
+    ensures { (result.what ≡ comment_end (chars (drop from s.now)) from) × (result.depth ≡ comment_depth (chars (drop from s.now))) }
 {
     let mut at = from;
     let mut n: usize = 0;
@@ -243,15 +216,12 @@ pub fn comment_end(s: &[u8], from: usize) -> Commented
         n += to - at;
         at = to;
         match utf8::char_at(s, at) {
-            Sight::Char { code, width } => {
+            Some((code, width)) => {
                 st = com_step(st, code);
                 if com_done(st) {
-                    let found = Found::At {
-                        place: at,
-                        passed: n,
-                    };
-                    return Commented {
-                        end: found,
+                    let found = Ok((at, n));
+                    return Deep {
+                        what: found,
                         depth: most,
                     };
                 }
@@ -259,13 +229,10 @@ pub fn comment_end(s: &[u8], from: usize) -> Commented
                 at += width;
                 n += 1;
             }
-            Sight::End => {
-                let open = Found::Nothing {
-                    place: at,
-                    passed: n,
-                };
-                return Commented {
-                    end: open,
+            None => {
+                let open = Err((at, n));
+                return Deep {
+                    what: open,
                     depth: most,
                 };
             }
@@ -312,22 +279,16 @@ pub fn regex_end(s: &[u8], from: usize, hashes: usize) -> Found
     let mut st: usize = 0;
     loop {
         match utf8::char_at(s, at) {
-            Sight::Char { code, width } => {
+            Some((code, width)) => {
                 st = reg_step(st, code);
                 if reg_done(hashes, st) {
-                    return Found::At {
-                        place: at,
-                        passed: n,
-                    };
+                    return Ok((at, n));
                 }
                 at += width;
                 n += 1;
             }
-            Sight::End => {
-                return Found::Nothing {
-                    place: at,
-                    passed: n,
-                };
+            None => {
+                return Err((at, n));
             }
         }
     }
@@ -354,21 +315,15 @@ pub fn take_until(s: &[u8], from: usize, kind: Sought) -> Found
     let mut n: usize = to - from;
     loop {
         match utf8::char_at(s, at) {
-            Sight::Char { code, width } => {
+            Some((code, width)) => {
                 if stops(kind, code) {
-                    return Found::At {
-                        place: at,
-                        passed: n,
-                    };
+                    return Ok((at, n));
                 }
                 at += width;
                 n += 1;
             }
-            Sight::End => {
-                return Found::Nothing {
-                    place: at,
-                    passed: n,
-                };
+            None => {
+                return Err((at, n));
             }
         }
     }
@@ -386,8 +341,8 @@ pub fn is_next(s: &[u8], at: usize, k: u32) -> bool
     ensures { result ≡ if_next k (chars (drop at s.now)) true false }
 {
     match utf8::char_at(s, at) {
-        Sight::Char { code, width: _ } => code == k,
-        Sight::End => false,
+        Some((code, _)) => code == k,
+        None => false,
     }
 }
 
@@ -396,8 +351,8 @@ pub fn up_to(f: Found) -> Skip
     ensures { result ≡ up_to f }
 {
     match f {
-        Found::At { place, passed } => Skip::Past(place, passed),
-        Found::Nothing { place, passed } => Skip::Past(place, passed),
+        Ok((place, passed)) => Ok((place, passed)),
+        Err((place, passed)) => Ok((place, passed)),
     }
 }
 
@@ -406,24 +361,24 @@ pub fn to_turn(b: usize, x: Skip) -> Turn
     ensures { result ≡ turn_of b x }
 {
     match x {
-        Skip::Past(p, m) => Turn::Pass(p, m, b),
-        Skip::Lost(r, p, m) => Turn::Fail(r, p, m),
+        Ok((p, m)) => Turn::Pass(p, m, b),
+        Err((r, p, m)) => Turn::Fail(r, p, m),
     }
 }
 
 // Through the one character that closes what starts at o (`take_until_and_consume_terminating_character`), or that it is never closed.
 fn through(code: Code, o: usize, f: Found) -> Skip
-    requires { (p m : ℕ) → f ≡ At p m → (p < 18446744073709551615) × (m < 18446744073709551615) }
+    requires { (p m : ℕ) → f ≡ Ok (p, m) → (p < 18446744073709551615) × (m < 18446744073709551615) }
     ensures { result ≡ through code o f }
 {
     match f {
-        Found::At { place, passed } => Skip::Past(place + 1, passed + 1),
-        Found::Nothing { place, passed } => {
+        Ok((place, passed)) => Ok((place + 1, passed + 1)),
+        Err((place, passed)) => {
             let r = Refusal {
                 code,
                 place: o as u64,
             };
-            Skip::Lost(r, place, passed)
+            Err((r, place, passed))
         }
     }
 }
@@ -440,13 +395,13 @@ pub fn string_skip(s: &[u8], at: usize, o: usize) -> Skip
 }
 
 // `block_comment` after the slash and the star of a comment that starts at o.
-pub fn block_comment(s: &[u8], at: usize, o: usize) -> Deep
-    ensures { (result.skip ≡ block_comment o (chars (drop at s.now)) at) × (result.depth ≡ comment_depth (chars (drop at s.now))) }
+pub fn block_comment(s: &[u8], at: usize, o: usize) -> Deep<Skip>
+    ensures { (result.what ≡ block_comment o (chars (drop at s.now)) at) × (result.depth ≡ comment_depth (chars (drop at s.now))) }
 {
     let c = comment_end(s, at);
-    let end = c.end;
+    let end = c.what;
     Deep {
-        skip: through(Code::UnterminatedBlockComment, o, end),
+        what: through(Code::UnterminatedBlockComment, o, end),
         depth: c.depth,
     }
 }

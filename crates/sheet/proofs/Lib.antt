@@ -1,3 +1,4 @@
 pub mod Telling
 -- the sheet's books
 pub mod Theorems
+pub mod Within

@@ -1,4 +1,5 @@
 -- The loop over a gap: what holds at each place that it comes to, from turn to turn, and what it answers.
+use Rattle.std.specs.Prelude.{Ok, Err}
 use Prim.Native.Nat.{◌+◌, ◌-◌, ◌<◌, suc, zero, ℕ}
 use native.Mathlib.Omega.{arith}
 use mathlib.Core.Bool.{Bool, false, not, true}
@@ -14,11 +15,10 @@ use Rattle.record.specs.declared.Refusal.{Refusal}
 use Rattle.scan.specs.Deepens.{cover_none, deeper-none, depth_pass}
 use Rattle.scan.specs.Depth.{cover_depth, deeper, depth_from}
 use Rattle.scan.specs.Far.{Far, Lands, lands}
-use Rattle.scan.specs.Runs.{byte_seen, neither, run, run_on, run-over}
+use Rattle.scan.specs.Runs.{byte_seen, neither, run, run-over}
 use Rattle.scan.specs.Turns.{walk_pass}
 use Rattle.scan.specs.Until.{left}
 use Rattle.scan.specs.Walk.{walk_from}
-use Rattle.scan.specs.declared.Skip.TheVariants.{Lost, Past}
 use Rattle.scan.specs.declared.Turn.TheVariants.{Pass, Stop}
 use Rattle.reading.specs.Gaps.{comment_turn, gap, gap_depth_of, gap_last, gap_turn}
 use Rattle.reading.specs.Passes.{gap_sound}
@@ -26,7 +26,6 @@ use Rattle.reading.proofs.Steps.{gap-over, gap-run, level_run, over_level, run_d
 use Rattle.reading.specs.Steps.{gap_level, gap_pass, gap-state, gap_stop}
 use Rattle.sheet.specs.Apart.{apart, comments, whites}
 use Rattle.sheet.specs.ApartLaws.{comment_told, none-counts, white_counts}
-use Rattle.sheet.specs.declared.Gap.TheVariants.{Blank, Open}
 
 -- w characters of whitespace and k of comments, d deep, lead from one place to another: there the reader goes on, and the count, however many more are counted
 pub record Reached (s : List ℕ) (from at w k d : ℕ) : Type 0 where
@@ -119,10 +118,10 @@ module _ {s : List ℕ} {from at w k d c v p m b : ℕ} (h : Reached s from at w
 
 -- ---- what is answered
 module _ {s : List ℕ} {from at w k d : ℕ} (h : Reached s from at w k d) where
-  pub told_past : walk_from gap_turn gap_last 0 (left s at) 0 at (w + k) ≡ Past at (w + k) → depth_from gap_turn 0 (left s at) 0 at d ≡ d → Blank at w k d ≡ apart (left s from) from
+  pub told_past : walk_from gap_turn gap_last 0 (left s at) 0 at (w + k) ≡ Ok (at, w + k) → depth_from gap_turn 0 (left s at) 0 at d ≡ d → Ok (at, w, k, d) ≡ apart (left s from) from
   unfolding apart whites
   told_past x y =
-      let e : gap (left s from) from ≡ Past at (w + k) = sym h.walked ∙ x in
+      let e : gap (left s from) from ≡ Ok (at, w + k) = sym h.walked ∙ x in
       let f : Far (left s from) from (w + k) at = (rw e at (gap_sound (left s from) from)).is in
       let z : w + k + 0 ≡ w + k = omega arith in
       let c : comments (take (w + k) (left s from)) ≡ k = omega (arith, rw z at (h.counted 0), none-counts) in
@@ -130,13 +129,13 @@ module _ {s : List ℕ} {from at w k d : ℕ} (h : Reached s from at w k d) wher
       let v : gap_depth_of (left s from) from ≡ d = sym h.deep ∙ y in
       rw (e, c, length-take-le (w + k) (left s from) f.within, u, v)
 
-  pub told_lost : {r : Refusal} {p m : ℕ} → walk_from gap_turn gap_last 0 (left s at) 0 at (w + k) ≡ Lost r p m → Open r m ≡ apart (left s from) from
+  pub told_lost : {r : Refusal} {p m : ℕ} → walk_from gap_turn gap_last 0 (left s at) 0 at (w + k) ≡ Err (r, p, m) → Err (r, m) ≡ apart (left s from) from
   unfolding apart
-  told_lost {r} {p} {m} x = let e : gap (left s from) from ≡ Lost r p m = sym h.walked ∙ x in rw e
+  told_lost {r} {p} {m} x = let e : gap (left s from) from ≡ Err (r, p, m) = sym h.walked ∙ x in rw e
 
 -- a run of spaces, and then a byte that neither is whitespace nor starts a comment
 pub told_over : (s : List ℕ) (from to : ℕ) → to ≡ from + run gap_stop (drop from s) → to < length s → get_or s to 0 < 128 → (get_or s to 0 ≡ 47 → ⊥)
-    → Blank to (to - from) 0 0 ≡ apart (left s from) from
+    → Ok (to, to - from, 0, 0) ≡ apart (left s from) from
 told_over s from to e l a n =
     let q : 0 + (to - from) ≡ to - from = omega arith in
     let h : Reached s from to (to - from) 0 0 = rw q at (spaced s from from to 0 0 0 e (start s from)) in

@@ -1,6 +1,6 @@
 -- THE SHEET'S BOOKS: theorems about what the contract of `sheet::take` allows, text after text. Quoted: 02, E2.
 use Prim.Native.Nat.{◌*◌, ◌+◌, ◌-◌, ◌<◌, ◌≤◌, suc, zero, ℕ}
-use Rattle.std.proofs.Common.{arith, ◌∙◌, ext_get_or}
+use Rattle.std.proofs.Common.{arith, ◌∙◌, ext_get_or, Result, Ok, Err}
 use Rattle.std.specs.Prelude.{Bool, cond, eqb, get_or}
 use Rattle.std.proofs.Math.Bool.{false, true}
 use mathlib.Core.List.{List, [], ◌∷◌}
@@ -13,8 +13,6 @@ use Rattle.record.specs.Checks.{checks}
 use Rattle.record.specs.Codes.{checks-refuse}
 use Rattle.record.specs.Numbers.{code_number}
 use Rattle.record.specs.Records.{refusal}
-use Rattle.record.specs.declared.Checked.{Checked}
-use Rattle.record.specs.declared.Checked.TheVariants.{Passed, Refused as Stopped}
 use Rattle.record.specs.declared.Code.{Code}
 use Rattle.record.specs.declared.Code.TheVariants.{BadRecord, SheetFull}
 use Rattle.record.specs.declared.Reading.TheVariants.{Old}
@@ -112,13 +110,13 @@ module _ (s : List ℕ) where
       tallied_at i z e ∙ enter-other texts_taken i 1 (enter (tallies + code_number z.code) 1 empty_sheet) a
       ∙ enter-other (tallies + code_number z.code) i 1 empty_sheet (ne_eqb i (tallies + code_number z.code) (λ q. omega arith)) ∙ empty_at i
 
-  ends_passed : (story s).how ≡ Ended → checks s 0 ≡ Passed
+  ends_passed : (story s).how ≡ Ended → checks s 0 ≡ Ok tt
   unfolding story whole_run_with
   ends_passed e = go (checks s 0) refl
     where
-      go : (c : Checked) → checks s 0 ≡ c → c ≡ Passed
-      go Passed q = refl
-      go (Stopped r) q = let f : Failed r ≡ Ended = rw q at e in let w : ◌≡◌ {A = ℕ} 0 1 = cc in absurd (omega arith)
+      go : (c : Result Unit Refusal) → checks s 0 ≡ c → c ≡ Ok tt
+      go (Ok tt) q = refl
+      go (Err r) q = let f : Failed r ≡ Ended = rw q at e in let w : ◌≡◌ {A = ℕ} 0 1 = cc in absurd (omega arith)
 
   -- "the four character totals add up to the characters of those that reached their end"
   pub text-characters : four (adds s) ≡ reached s
@@ -208,15 +206,15 @@ module _ (s : List ℕ) where
             tallied = rw (← o.how_over) o.code-over;
           }
 
-  finishes : checks s 0 ≡ Passed → Finishes
+  finishes : checks s 0 ≡ (Ok tt) → Finishes
   finishes p = finish (suc (length s)) 0 0 empty_sheet (going_start s p empty_sheet refl).0 (omega arith)
 
   -- "A text that ends in an error, 15 included": 2, 5, 6, 8, 9, 10, 22, 23 and 15 are tallied, and no other code; there is always room
-  pub text_tallied : checks s 0 ≡ Passed → (z : Refusal) → (story s).how ≡ Failed z → is_tallied z.code ≡ true
+  pub text_tallied : checks s 0 ≡ (Ok tt) → (z : Refusal) → (story s).how ≡ Failed z → is_tallied z.code ≡ true
   text_tallied p z e = rw e at (finishes p).tallied
 
   -- and adds no more than 2^50 to any number
-  pub text-most : checks s 0 ≡ Passed → (i : ℕ) → adds_to i s ≤ work_limit
+  pub text-most : checks s 0 ≡ (Ok tt) → (i : ℕ) → adds_to i s ≤ work_limit
   text-most p i = go (story s).how refl
     where
       f : Finishes
@@ -234,7 +232,7 @@ module _ (s : List ℕ) where
       go Running e = absurd (never_running s e)
 
   -- and to a number before the advances not much more than it has characters
-  text-small : checks s 0 ≡ Passed → (i : ℕ) → i < advances_in → adds_to i s ≤ 0x400000000
+  text-small : checks s 0 ≡ (Ok tt) → (i : ℕ) → i < advances_in → adds_to i s ≤ 0x400000000
   text-small p i h = go (story s).how refl
     where
       go : (how : Outcome) → (story s).how ≡ how → adds_to i s ≤ 0x400000000
@@ -287,7 +285,7 @@ module _ (s sheet : List ℕ) where
   -- what a sheet and a text are, where the text is taken
   pub record Takes : Type 0 where
     pub long : sheet_size ≤ length sheet
-    pub passed : checks s 0 ≡ Passed
+    pub passed : checks s 0 ≡ Ok tt
     pub unfull : get_or sheet texts_taken 0 < most_texts
     pub fair : is_sheet sheet ≡ true
 
@@ -298,12 +296,12 @@ module _ (s sheet : List ℕ) where
   unfolding taken
   took e = go (ltb (length sheet) sheet_size) (checks s 0) (leb most_texts (get_or sheet texts_taken 0)) (is_sheet sheet) refl refl refl refl
     where
-      go : (a : Bool) (c : Checked) (b d : Bool) → ltb (length sheet) sheet_size ≡ a → checks s 0 ≡ c → leb most_texts (get_or sheet texts_taken 0) ≡ b → is_sheet sheet ≡ d → Takes
+      go : (a : Bool) (c : Result Unit Refusal) (b d : Bool) → ltb (length sheet) sheet_size ≡ a → checks s 0 ≡ c → leb most_texts (get_or sheet texts_taken 0) ≡ b → is_sheet sheet ≡ d → Takes
       go true c b d p q r u = no (rw p at e)
-      go false (Stopped z) b d p q r u = no (rw (p, q) at e)
-      go false Passed true d p q r u = no (rw (p, q, r) at e)
-      go false Passed false false p q r u = no (rw (p, q, r, u) at e)
-      go false Passed false true p q r u = record { long = ltb-false _ _ p; passed = q; unfull = leb-false _ _ r; fair = u }
+      go false (Err z) b d p q r u = no (rw (p, q) at e)
+      go false (Ok tt) true d p q r u = no (rw (p, q, r) at e)
+      go false (Ok tt) false false p q r u = no (rw (p, q, r, u) at e)
+      go false (Ok tt) false true p q r u = record { long = ltb-false _ _ p; passed = q; unfull = leb-false _ _ r; fair = u }
 
   -- and the other way
   as_taken : (how : Outcome) → is_taken (taken_as how) ≡ true
@@ -460,12 +458,12 @@ pub begun_empty : (ss : List (List ℕ)) → Good (takes ss empty_sheet)
 begun_empty ss = good_takes ss empty_sheet empty_good
 
 -- such a sheet takes every text that passes the checks, until it is full
-pub takes_all : (s sheet : List ℕ) → Good sheet → checks s 0 ≡ Passed → get_or sheet texts_taken 0 < most_texts → is_taken (taken s sheet) ≡ true
+pub takes_all : (s sheet : List ℕ) → Good sheet → checks s 0 ≡ (Ok tt) → get_or sheet texts_taken 0 < most_texts → is_taken (taken s sheet) ≡ true
 takes_all s sheet g p h = takes_it s sheet (record { long = g.size; passed = p; unfull = h; fair = g.sound })
 
 -- which refusals a text can meet, by what a sheet is
 module _ (s sheet : List ℕ) (g : Good sheet) where
-  checked : (z : Refusal) → checks s 0 ≡ Stopped z → z.code ≡ BadRecord → ⊥
+  checked : (z : Refusal) → checks s 0 ≡ Err z → z.code ≡ BadRecord → ⊥
   checked z e q =
       let h = checks-refuse (λ (c : Code). code_number c ≤ 13) (omega arith) (omega arith) (omega arith) s 0 in
       let l : code_number z.code ≤ 13 = rw e at h.is in
@@ -484,17 +482,17 @@ module _ (s sheet : List ℕ) (g : Good sheet) where
       long : ltb (length sheet) sheet_size ≡ false
       long = le-ltb (length sheet) sheet_size g.size
 
-      go : (c : Checked) → checks s 0 ≡ c → (b : Bool) → leb most_texts (get_or sheet texts_taken 0) ≡ b → ⊥
-      go (Stopped r) p b u =
+      go : (c : Result Unit Refusal) → checks s 0 ≡ c → (b : Bool) → leb most_texts (get_or sheet texts_taken 0) ≡ b → ⊥
+      go (Err r) p b u =
           let f : Refused r ≡ Refused z = rw (long, p) at e in
           let h : r ≡ z = cc in
           checked r p (ap (λ (x : Refusal). x.code) h ∙ q)
-      go Passed p true u =
+      go (Ok tt) p true u =
           let f : Refused (refusal SheetFull 0) ≡ Refused z = rw (long, p, u) at e in
           let h : refusal SheetFull 0 ≡ z = cc in
           let k : ◌≡◌ {A = ℕ} 21 20 = ap (λ (x : Refusal). code_number x.code) h ∙ ap code_number q in
           omega arith
-      go Passed p false u = as_not (story s).how z (rw (long, p, u, g.sound) at e)
+      go (Ok tt) p false u = as_not (story s).how z (rw (long, p, u, g.sound) at e)
 
 -- "20 for a sheet with a total above 2^50 for each text taken, which none begun empty ever has"
 pub never_twenty : (ss : List (List ℕ)) (s : List ℕ) (z : Refusal) → taken s (takes ss empty_sheet) ≡ Refused z → z.code ≡ BadRecord → ⊥
@@ -504,10 +502,10 @@ never_twenty ss s z = not_twenty s (takes ss empty_sheet) (begun_empty ss) z
 pub at_most : (ss : List (List ℕ)) → length (taken_of ss empty_sheet) ≤ most_texts
 at_most ss = let h = (begun_empty ss).room in omega (arith, h, texts-counted ss)
 
-pub full : (ss : List (List ℕ)) (s : List ℕ) → checks s 0 ≡ Passed → length (taken_of ss empty_sheet) ≡ most_texts → taken s (takes ss empty_sheet) ≡ Refused (refusal SheetFull 0)
+pub full : (ss : List (List ℕ)) (s : List ℕ) → checks s 0 ≡ (Ok tt) → length (taken_of ss empty_sheet) ≡ most_texts → taken s (takes ss empty_sheet) ≡ Refused (refusal SheetFull 0)
 full ss s p h = let g = begun_empty ss in sym (take_full s (takes ss empty_sheet) g.size p (omega (arith, h, texts-counted ss))).0
 
-pub not_full : (ss : List (List ℕ)) (s : List ℕ) → checks s 0 ≡ Passed → length (taken_of ss empty_sheet) < most_texts → is_taken (taken s (takes ss empty_sheet)) ≡ true
+pub not_full : (ss : List (List ℕ)) (s : List ℕ) → checks s 0 ≡ (Ok tt) → length (taken_of ss empty_sheet) < most_texts → is_taken (taken s (takes ss empty_sheet)) ≡ true
 not_full ss s p h = takes_all s (takes ss empty_sheet) (begun_empty ss) p (omega (arith, h, texts-counted ss))
 
 one_more : {n : ℕ} (b : Bool) → n ≡ 1 → cond b n 0 ≤ 1
@@ -523,12 +521,12 @@ few (s ∷ ss) sheet g h =
     let b = one_more (is_taken (taken s sheet)) (text-counted s) in
     go (checks s 0) refl (is_taken (taken s sheet)) refl (few ss (held s sheet) (good_held s sheet g) (omega (arith, h, a, b)))
   where
-    go : (c : Checked) → checks s 0 ≡ c → (b : Bool) → is_taken (taken s sheet) ≡ b → taken_of ss (held s sheet) ≡ passing ss
+    go : (c : Result Unit Refusal) → checks s 0 ≡ c → (b : Bool) → is_taken (taken s sheet) ≡ b → taken_of ss (held s sheet) ≡ passing ss
         → cond b (s ∷ taken_of ss (held s sheet)) (taken_of ss (held s sheet)) ≡ cond (passed_by c) (s ∷ passing ss) (passing ss)
-    go Passed p true q rest = ap (λ (l : List (List ℕ)). s ∷ l) rest
-    go Passed p false q rest = let t = takes_all s sheet g p (omega (arith, h)) in let w : false ≡ true = sym q ∙ t in let v : ◌≡◌ {A = ℕ} 0 1 = cc in absurd (omega arith)
-    go (Stopped r) p true q rest = let t = (took s sheet q).passed in let w : Stopped r ≡ Passed = sym p ∙ t in let v : ◌≡◌ {A = ℕ} 0 1 = cc in absurd (omega arith)
-    go (Stopped r) p false q rest = rest
+    go (Ok tt) p true q rest = ap (λ (l : List (List ℕ)). s ∷ l) rest
+    go (Ok tt) p false q rest = let t = takes_all s sheet g p (omega (arith, h)) in let w : false ≡ true = sym q ∙ t in let v : ◌≡◌ {A = ℕ} 0 1 = cc in absurd (omega arith)
+    go (Err r) p true q rest = let t = (took s sheet q).passed in let w : Err r ≡ (Ok tt) = sym p ∙ t in let v : ◌≡◌ {A = ℕ} 0 1 = cc in absurd (omega arith)
+    go (Err r) p false q rest = rest
 
 reordered_length : {ss rs : List (List ℕ)} → Reordered ss rs → length ss ≡ length rs
 reordered_length same = refl

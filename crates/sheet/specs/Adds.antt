@@ -1,11 +1,9 @@
 -- WHAT ONE TEXT ADDS, read alone. 02, E2: "each read with shift 0 and a work limit of 2^50, and keeps exact totals: tokens of each kind, characters in
 -- tokens, in whitespace, in comments and dropped after attributes, advances, failed attempts."
-use Rattle.std.specs.Prelude.{◌+◌, ℕ, cond, List, [], ◌∷◌, eqb, ltb, get_or, length, replicate, set}
+use Rattle.std.specs.Prelude.{◌+◌, ℕ, cond, List, [], ◌∷◌, eqb, ltb, get_or, length, replicate, set, Option, Some, None, Ok, Err}
 use Rattle.utf8.specs.Chars.{'#}
 use Rattle.utf8.specs.Utf8.{width_of}
 use Rattle.record.specs.Numbers.{code_number, kind_number}
-use Rattle.record.specs.declared.Told.{Told}
-use Rattle.record.specs.declared.Told.TheVariants.{Is, Unknown}
 use Rattle.record.specs.declared.Token.{Token}
 use Rattle.record.specs.declared.Reading.TheVariants.{Old}
 use Rattle.scan.specs.Depth.{deeper}
@@ -15,8 +13,7 @@ use Rattle.reading.specs.Answers.{start_state}
 use Rattle.reading.specs.Attribute.{attempt}
 use Rattle.reading.specs.Measures.{tail_of}
 use Rattle.reading.specs.Run.{Run}
-use Rattle.reading.specs.declared.Attempt.{Attempt}
-use Rattle.reading.specs.declared.Attempt.TheVariants.{Closed, Failed}
+use Rattle.reading.specs.Shapes.{Attempt}
 use Rattle.reading.specs.declared.Outcome.{Outcome}
 use Rattle.reading.specs.declared.Outcome.TheVariants.{Ended, Refused, Running}
 use Rattle.run.specs.Checked.{whole_run}
@@ -72,8 +69,8 @@ between s a b = up_to (left s a) a b
 
 -- whether the attempt at the place o fails: the characters from there start with a hash, and it is no attribute
 abbrev pub failing : Attempt → ℕ
-failing (Closed p m) = 0
-failing (Failed p m) = 1
+failing (Ok (p, m)) = 0
+failing (Err (p, m)) = 1
 
 unfoldable pub fails : List ℕ → ℕ → ℕ
 fails [] o = 0
@@ -111,9 +108,9 @@ unfoldable pub story : List ℕ → Run
 story s = whole_run s 0 work_limit (length s) start_state
 
 -- 02, E4: "a record keeps two, for the gap before it and for its code; the last gap's stands beside the count": the greatest depth that a token tells
-abbrev pub depth_in : Told → ℕ
-depth_in (Is n) = n
-depth_in Unknown = 0
+abbrev pub depth_in : Option ℕ → ℕ
+depth_in (Some n) = n
+depth_in None = 0
 
 abbrev pub token_depth : Token → ℕ
 token_depth t = deeper (depth_in t.gap_depth) (depth_in t.code_depth)

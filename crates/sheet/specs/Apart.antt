@@ -1,14 +1,12 @@
 -- What of a gap is whitespace and what is comment, said over the gap's characters alone; no reader is asked. 02, E2: "characters .. in whitespace, in
 -- comments". 01: "Gaps: whitespace; `//` up to but not including newline or end; nested `/* */`."
-use Rattle.std.specs.Prelude.{◌+◌, ◌-◌, suc, ℕ, cond, List, [], ◌∷◌, eqb, ltb, length, take}
+use Rattle.std.specs.Prelude.{◌+◌, ◌-◌, suc, ℕ, cond, List, [], ◌∷◌, eqb, ltb, length, take, Ok, Err, Result}
 use Rattle.utf8.specs.Chars.{'*, '/, 'newline}
+use Rattle.record.specs.declared.Refusal.{Refusal}
 use Rattle.scan.specs.IfNext.{if_next}
-use Rattle.scan.specs.declared.Skip.{Skip}
-use Rattle.scan.specs.declared.Skip.TheVariants.{Lost, Past}
+use Rattle.scan.specs.Shapes.{Skip}
 use Rattle.reading.specs.Blank.{is_mark}
 use Rattle.reading.specs.Gaps.{gap, gap_depth_of}
-use Rattle.sheet.specs.declared.Gap.{Gap}
-use Rattle.sheet.specs.declared.Gap.TheVariants.{Blank, Open}
 
 -- where a character of a gap stands: outside comments; in one to the end of its line; in a nested one, of which so many are open; or at the second
 -- character of a mark, after which it stands as is told
@@ -47,9 +45,9 @@ whites xs = length xs - comments xs
 
 -- the gap from a place on: where it ends, how many of its characters are whitespace and comment, and how deep its comments go, d; or why it does not end, and
 -- after how many advances
-abbrev pub apart_by : List ℕ → Skip → ℕ → Gap
-apart_by cs (Past p m) d = Blank p (whites (take m cs)) (comments (take m cs)) d
-apart_by cs (Lost r p m) d = Open r m
+abbrev pub apart_by : List ℕ → Skip → ℕ → Result (ℕ × ℕ × ℕ × ℕ) (Refusal × ℕ)
+apart_by cs (Ok (p, m)) d = Ok (p, whites (take m cs), comments (take m cs), d)
+apart_by cs (Err (r, p, m)) d = Err (r, m)
 
-unfoldable pub apart : List ℕ → ℕ → Gap
+unfoldable pub apart : List ℕ → ℕ → Result (ℕ × ℕ × ℕ × ℕ) (Refusal × ℕ)
 apart cs at = apart_by cs (gap cs at) (gap_depth_of cs at)

@@ -1,6 +1,6 @@
 -- What the count of a gap's comments says of each thing that a gap holds, and of each turn of the gap's reader.
 use Prim.Native.Nat.{◌+◌, ◌-◌, ◌≤◌, suc, zero, ℕ}
-use Rattle.std.proofs.Common.{arith, ◌∙◌, ap, sym, take-append-drop, take-add, eqb-true, le-ltb, ne_eqb}
+use Rattle.std.proofs.Common.{arith, ◌∙◌, ap, sym, take-append-drop, take-add, eqb-true, le-ltb, ne_eqb, Ok, Err}
 use Rattle.std.specs.Prelude.{Bool, false, true, List, [], ◌++◌, ◌∷◌, ◌≡◌, refl, eqb, drop, length, take}
 use Rattle.std.proofs.Math.Seq.{length-take-le}
 use Rattle.utf8.specs.Chars.{'*, '/, 'newline}
@@ -11,10 +11,8 @@ use Rattle.scan.specs.IfNext.{if_next}
 use Rattle.scan.specs.Readers.{comment_end}
 use Rattle.scan.specs.Seek.{line_skip, skip_more, through}
 use Rattle.scan.specs.Walk.{turn_of}
-use Rattle.scan.specs.declared.Found.{Found}
-use Rattle.scan.specs.declared.Found.TheVariants.{At, Nothing}
-use Rattle.scan.specs.declared.Skip.{Skip}
-use Rattle.scan.specs.declared.Skip.TheVariants.{Lost, Past}
+use Rattle.scan.specs.Shapes.{Found}
+use Rattle.scan.specs.Shapes.{Skip}
 use Rattle.scan.specs.declared.Turn.TheVariants.{Pass, Stop}
 use Rattle.reading.specs.Blank.{Comment, closes, ends, is_mark, line_over, one_line, opens, passes}
 use Rattle.reading.specs.Blanks.{comment_blank, line-from}
@@ -94,22 +92,22 @@ module _ (cs : List ℕ) (at p m b j : ℕ) where
 
   line-told : m ≤ length ('/ ∷ cs) → (x : Skip) → line_skip ('/ ∷ cs) at ≡ x → turn_of 0 x ≡ Pass p m b
       → comments ('/ ∷ take (m + j) ('/ ∷ cs)) ≡ 1 + m + comments (take j (drop m ('/ ∷ cs)))
-  line-told l (Past q i) e z =
+  line-told l (Ok (q, i)) e z =
       let u : i ≡ m = cc in
       let h = line-from q i ('/ ∷ cs) false at 0 e in
       let y = h.counted in
       line-turn l h.passed (omega arith) h.one h.over
-  line-told l (Lost r q i) e z = cc
+  line-told l (Err (r, q, i)) e z = cc
 
   block_told : (o : ℕ) → m ≤ length ('* ∷ cs) → (x : Found) → comment_end cs at ≡ x → turn_of 0 (skip_more 1 (through UnterminatedBlockComment o x)) ≡ Pass p m b
       → comments ('/ ∷ take (m + j) ('* ∷ cs)) ≡ 1 + m + comments (take j (drop m ('* ∷ cs)))
-  block_told o l (At q i) e z =
+  block_told o l (Ok (q, i)) e z =
       let u : 1 + (i + 1) ≡ m = cc in
       let y : m ≡ suc (suc i) = omega arith in
       let h = block_counts (take (suc i) cs) (take j (drop (suc i) cs)) (comment_blank cs at q i e) in
       let n = length-take-le (suc i) cs (omega arith) in
       rw (take-add m j ('* ∷ cs), y) (omega (arith, h, n))
-  block_told o l (Nothing q i) e z = cc
+  block_told o l (Err (q, i)) e z = cc
 
 pub comment_told : (o : ℕ) (cs : List ℕ) (at p m b j : ℕ) → m ≤ length cs → comment_turn o cs at ≡ Pass p m b
     → comments ('/ ∷ take (m + j) cs) ≡ 1 + m + comments (take j (drop m cs))

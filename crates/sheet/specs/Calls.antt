@@ -1,5 +1,5 @@
 -- The calls of a text, one after another, are those of its run; and what they enter is what its tokens do.
-use Rattle.std.specs.Prelude.{◌*◌, ◌+◌, ◌-◌, ◌<◌, ◌≤◌, suc, zero, ℕ, Bool, cond, true, drop}
+use Rattle.std.specs.Prelude.{◌*◌, ◌+◌, ◌-◌, ◌<◌, ◌≤◌, suc, zero, ℕ, Bool, cond, true, drop, Ok, Err, Result}
 use Rattle.std.proofs.Common.{arith, ◌∙◌, le-ltb, lt-ltb, ltb-false}
 use Rattle.std.proofs.Math.Bool.{false}
 use mathlib.Core.List.{List, [], ◌∷◌}
@@ -15,7 +15,6 @@ use Rattle.record.specs.Checks.{checks}
 use Rattle.record.specs.Codes.{among}
 use Rattle.record.specs.Numbers.{code_number, kind_number}
 use Rattle.record.specs.Records.{refusal}
-use Rattle.record.specs.declared.Checked.TheVariants.{Passed}
 use Rattle.record.specs.declared.Code.{Code}
 use Rattle.record.specs.declared.Code.TheVariants.{WorkLimit}
 use Rattle.record.specs.declared.Reading.TheVariants.{Old}
@@ -25,8 +24,7 @@ use Rattle.scan.specs.Deepens.{least}
 use Rattle.scan.specs.Depth.{deeper}
 use Rattle.scan.specs.Far.{Far, far_left, fits, lands, short}
 use Rattle.scan.specs.Until.{left}
-use Rattle.scan.specs.declared.Skip.{Skip}
-use Rattle.scan.specs.declared.Skip.TheVariants.{Lost, Past}
+use Rattle.scan.specs.Shapes.{Skip, same_ok}
 use Rattle.reading.specs.Answers.{more, told, told_token, told_what}
 use Rattle.reading.proofs.CallLaw.{LaidIn, Placed, next-laid}
 use Rattle.reading.specs.Gaps.{gap, gap_depth_of}
@@ -51,12 +49,11 @@ use Rattle.ledger.proofs.Answered.{next_says}
 use Rattle.ledger.specs.Answered.{SaysIn}
 use Rattle.ledger.specs.Levels.{last-told, next_small}
 use Rattle.ledger.specs.Small.{gap-small}
-use Rattle.sheet.specs.Adds.{between, beyond, depth_in, depth_over, dropped_after, drops, empty_sheet, enter, entered, failed_in, fails, gap_entered, greatest, in_comments, in_tokens, in_whitespace, sheet_size, story, token_depth, token_entered, work_limit}
+use Rattle.sheet.specs.Adds.{between, beyond, depth_over, dropped_after, drops, empty_sheet, enter, entered, failed_in, fails, gap_entered, greatest, in_comments, in_tokens, in_whitespace, sheet_size, story, token_depth, token_entered, work_limit}
 use Rattle.sheet.specs.Apart.{apart, apart_by, comments, whites}
 use Rattle.sheet.specs.Laws.{Below, below_more, empty_below, empty_length, enter_below, enter-length, fails-le, span_length, up_to_far, whites-comments}
 use Rattle.sheet.specs.Parts.{Delivers, token-start}
 use Rattle.sheet.specs.Reads.{call_of, part_of, read_of, row_of}
-use Rattle.sheet.specs.declared.Gap.TheVariants.{Blank, Open}
 use Rattle.sheet.specs.declared.Read.{Read}
 
 -- with shift 0 every place stays
@@ -70,6 +67,15 @@ shift_token_lem t =
 
 shift_refusal : (r : Refusal) → refusal r.code (r.place + 0) ≡ r
 shift_refusal r = let a : r.place + 0 ≡ r.place = omega arith in rw a
+
+-- what the parts of two equal answers are
+same_blank : {p q w u c v d k : ℕ} → ◌≡◌ {A = Result (ℕ × ℕ × ℕ × ℕ) (Refusal × ℕ)} (Ok (p, w, c, d)) (Ok (q, u, v, k)) → (p ≡ q) × (w ≡ u) × (c ≡ v) × (d ≡ k)
+same_blank {p} {q} {w} {u} {c} {v} {d} {k} e =
+    let x : ◌≡◌ {A = ℕ × ℕ × ℕ × ℕ} (p, w, c, d) (q, u, v, k) = cc in
+    (ap (λ z. z.0) x, ap (λ z. z.1) x, ap (λ z. z.2) x, ap (λ z. z.3) x)
+
+same_open : {r q : Refusal} {m n : ℕ} → ◌≡◌ {A = Result (ℕ × ℕ × ℕ × ℕ) (Refusal × ℕ)} (Err (r, m)) (Err (q, n)) → (r ≡ q) × (m ≡ n)
+same_open {r} {q} {m} {n} e = let x : ◌≡◌ {A = Refusal × ℕ} (r, m) (q, n) = cc in (ap (λ z. z.0) x, ap (λ z. z.1) x)
 
 -- ---- the four answers of a call
 module _ (s : List ℕ) (at count : ℕ) where
@@ -120,27 +126,28 @@ module _ (s : List ℕ) (at count : ℕ) where
 
   -- ---- after a gap that is told apart
   pub record Gapped (p w c d : ℕ) : Type 0 where
-    pub gap_is : gap (left s at) at ≡ Past p (w + c)
+    pub gap_is : gap (left s at) at ≡ Ok (p, w + c)
     pub far : Far (left s at) at (w + c) p
     pub goes_on : reads ≡ told d (more (w + c) (token_or_end Old (left s p) p))
     pub white_is : whites (between s at p) ≡ w
     pub comment_is : comments (between s at p) ≡ c
 
-  pub gapped : (p w c d : ℕ) → apart (left s at) at ≡ Blank p w c d → Gapped p w c d
+  pub gapped : (p w c d : ℕ) → apart (left s at) at ≡ Ok (p, w, c, d) → Gapped p w c d
   unfolding apart between
   gapped p w c d e = go (gap (left s at) at) refl e
     where
-      go : (x : Skip) → gap (left s at) at ≡ x → apart_by (left s at) x (gap_depth_of (left s at) at) ≡ Blank p w c d → Gapped p w c d
-      go (Past q m) g z =
-          let a : q ≡ p = cc in
-          let f : Far (left s at) at m p = (rw (g ∙ ap (λ (j : ℕ). Past j m) a) at (gap_sound (left s at) at)).is in
-          let u : whites (take m (left s at)) ≡ w = cc in
-          let v : comments (take m (left s at)) ≡ c = cc in
-          let n : gap_depth_of (left s at) at ≡ d = cc in
+      go : (x : Skip) → gap (left s at) at ≡ x → apart_by (left s at) x (gap_depth_of (left s at) at) ≡ Ok (p, w, c, d) → Gapped p w c d
+      go (Ok (q, m)) g z =
+          let y = same_blank z in
+          let a : q ≡ p = y.0 in
+          let f : Far (left s at) at m p = (rw (g ∙ ap (λ (j : ℕ). Ok (j, m)) a) at (gap_sound (left s at) at)).is in
+          let u : whites (take m (left s at)) ≡ w = y.1 in
+          let v : comments (take m (left s at)) ≡ c = y.2 in
+          let n : gap_depth_of (left s at) at ≡ d = y.3 in
           let k : w + c ≡ m = omega (arith, whites-comments (take m (left s at)), length-take-le m (left s at) f.within, u, v) in
           let b = up_to_far (left s at) at m p f in
           record { gap_is = rw (k, ← a) g; far = rw k f; goes_on = rw (k, ← n) (next-gap Old s at p m (rw (← a) g)); white_is = rw b u; comment_is = rw b v }
-      go (Lost r q m) g z = let k : ◌≡◌ {A = ℕ} 0 1 = cc in absurd (omega arith)
+      go (Err (r, q, m)) g z = let k : ◌≡◌ {A = ℕ} 0 1 = cc in absurd (omega arith)
 
   pub gap-entered : (p w c d : ℕ) → Gapped p w c d → (row : List ℕ) → gap_entered (between s at p) row ≡ enter in_comments c (enter in_whitespace w row)
   unfolding gap_entered
@@ -151,21 +158,22 @@ module _ (s : List ℕ) (at count : ℕ) where
   unfolding between
   last-entered p w c d h e row =
       let l : LaidIn Old (left s at) at reads.at reads.advances End = rw e at (next-laid Old (left s at) at).is in
-      let z : Past p (w + c) ≡ Past reads.at reads.advances = sym h.gap_is ∙ l.0 in
-      let k : w + c ≡ reads.advances = cc in
+      let z : ◌≡◌ {A = Skip} (Ok (p, w + c)) (Ok (reads.at, reads.advances)) = sym h.gap_is ∙ l.0 in
+      let k : w + c ≡ reads.advances = (same_ok _ _ _ _ z).1 in
       let b : between s at p ≡ left s at = up_to_far (left s at) at (w + c) p h.far ∙ ap (λ (j : ℕ). take j (left s at)) (k ∙ l.1) ∙ take-length (left s at) in
       ap (λ (xs : List ℕ). gap_entered xs row) (sym b) ∙ gap-entered p w c d h row
 
   -- a gap that is open
-  pub opened : (r : Refusal) (m : ℕ) → apart (left s at) at ≡ Open r m → (reads.what ≡ Error r) × (reads.advances ≡ m)
+  pub opened : (r : Refusal) (m : ℕ) → apart (left s at) at ≡ Err (r, m) → (reads.what ≡ Error r) × (reads.advances ≡ m)
   unfolding apart
   opened r m e = go (gap (left s at) at) refl e
     where
-      go : (x : Skip) → gap (left s at) at ≡ x → apart_by (left s at) x (gap_depth_of (left s at) at) ≡ Open r m → (reads.what ≡ Error r) × (reads.advances ≡ m)
-      go (Past q n) g z = let k : ◌≡◌ {A = ℕ} 0 1 = cc in absurd (omega arith)
-      go (Lost r' q n) g z =
-          let a : r' ≡ r = cc in
-          let b : n ≡ m = cc in
+      go : (x : Skip) → gap (left s at) at ≡ x → apart_by (left s at) x (gap_depth_of (left s at) at) ≡ Err (r, m) → (reads.what ≡ Error r) × (reads.advances ≡ m)
+      go (Ok (q, n)) g z = let k : ◌≡◌ {A = ℕ} 0 1 = cc in absurd (omega arith)
+      go (Err (r', q, n)) g z =
+          let y = same_open z in
+          let a : r' ≡ r = y.0 in
+          let b : n ≡ m = y.1 in
           let h = next_lost Old s at q n r' g in
           (ap (λ (x : Call). x.what) h ∙ ap Error a, ap (λ (x : Call). x.advances) h ∙ b)
 
@@ -227,7 +235,7 @@ pub record Going (s : List ℕ) (at count : ℕ) (row : List ℕ) : Type 0 where
   pub below : Below (3 * at) row
   pub size : length row ≡ sheet_size
 
-pub going_start : (s : List ℕ) → checks s 0 ≡ Passed → (row : List ℕ) → row ≡ empty_sheet → (g : Going s 0 0 row) × (g.deep ≡ 0)
+pub going_start : (s : List ℕ) → checks s 0 ≡ (Ok tt) → (row : List ℕ) → row ≡ empty_sheet → (g : Going s 0 0 row) × (g.deep ≡ 0)
 unfolding story greatest whole_run_with run_with
 going_start s e row r =
     let a = allowed s 0 e in
@@ -519,7 +527,7 @@ module _ (s : List ℕ) (at count : ℕ) (row : List ℕ) (g : Going s at count 
         (rw (← total-is, ← deep_is) (sym z.0), λ to f. f ∙ sym (z.1 row ∙ last-entered s at count p w c d h (what_is End q) row))
 
 -- ---- a comment that does not end
-module _ (s : List ℕ) (at count : ℕ) (row : List ℕ) (g : Going s at count row) (r : Refusal) (m : ℕ) (e : apart (left s at) at ≡ Open r m) where
+module _ (s : List ℕ) (at count : ℕ) (row : List ℕ) (g : Going s at count row) (r : Refusal) (m : ℕ) (e : apart (left s at) at ≡ Err (r, m)) where
   pub open_small : m ≤ 0xFFFFFFFF
   open_small =
       let a = (call-within Old s at g.within).most in

@@ -1,5 +1,5 @@
 -- WHICH CODES COME OUT of a sheet: 11, 12, 14, 20 and 21 where a text is refused; 2, 5, 6, 8, 9, 10, 15, 22 and 23 are tallied (`text_tallied`, proofs/Theorems.antt).
-use Rattle.std.specs.Prelude.{ℕ, Bool, List, [], ◌∷◌, ◌≡◌, get_or, length}
+use Rattle.std.specs.Prelude.{ℕ, Bool, List, [], ◌∷◌, ◌≡◌, get_or, length, Result, Ok, Err}
 use Rattle.std.proofs.Common.{arith}
 use Rattle.std.proofs.Math.Bool.{false, true}
 use Rattle.std.proofs.Math.Path.{refl}
@@ -8,8 +8,6 @@ use Rattle.record.specs.Checks.{checks}
 use Rattle.record.specs.Codes.{OneOf, among, each, none_of, one_of}
 use Rattle.record.specs.Numbers.{code_number}
 use Rattle.record.specs.Records.{refusal}
-use Rattle.record.specs.declared.Checked.{Checked}
-use Rattle.record.specs.declared.Checked.TheVariants.{Passed, Refused as Stopped}
 use Rattle.record.specs.declared.Code.TheVariants.{BadRecord, NoRoom, SheetFull}
 use Rattle.record.specs.declared.Refusal.{Refusal}
 use Rattle.place.specs.Codes.{place_codes, unshifted}
@@ -30,7 +28,7 @@ module _ (s sheet : List ℕ) (r : Refusal) (e : taken s sheet ≡ Refused r) wh
   by q f h = let g : q ≡ r = cc in rw (← g) h
 
   -- the checks' own
-  checked : (q : Refusal) → checks s 0 ≡ Stopped q → OneOf take_codes q.code
+  checked : (q : Refusal) → checks s 0 ≡ Err q → OneOf take_codes q.code
   unfolding among each
   checked q p = one_of (λ n. among n take_codes) (code_number q.code) place_codes refl (unshifted s q p)
 
@@ -43,13 +41,13 @@ module _ (s sheet : List ℕ) (r : Refusal) (e : taken s sheet ≡ Refused r) wh
   unfolding taken among
   take-codes = go (ltb (length sheet) sheet_size) refl (checks s 0) refl (leb most_texts (get_or sheet texts_taken 0)) refl (is_sheet sheet) refl
     where
-      go : (a : Bool) → ltb (length sheet) sheet_size ≡ a → (c : Checked) → checks s 0 ≡ c → (b : Bool) → leb most_texts (get_or sheet texts_taken 0) ≡ b
+      go : (a : Bool) → ltb (length sheet) sheet_size ≡ a → (c : Result Unit Refusal) → checks s 0 ≡ c → (b : Bool) → leb most_texts (get_or sheet texts_taken 0) ≡ b
           → (d : Bool) → is_sheet sheet ≡ d → OneOf take_codes r.code
       go true p c q b u d v = by (refusal NoRoom 0) (rw p at e) refl
-      go false p (Stopped z) q b u d v = by z (rw (p, q) at e) (checked z q)
-      go false p Passed q true u d v = by (refusal SheetFull 0) (rw (p, q, u) at e) refl
-      go false p Passed q false u true v = none (story s).how (rw (p, q, u, v) at e)
-      go false p Passed q false u false v = by (refusal BadRecord 0) (rw (p, q, u, v) at e) refl
+      go false p (Err z) q b u d v = by z (rw (p, q) at e) (checked z q)
+      go false p (Ok tt) q true u d v = by (refusal SheetFull 0) (rw (p, q, u) at e) refl
+      go false p (Ok tt) q false u true v = none (story s).how (rw (p, q, u, v) at e)
+      go false p (Ok tt) q false u false v = by (refusal BadRecord 0) (rw (p, q, u, v) at e) refl
 
   pub take_never : among (code_number r.code) never_take ≡ false
   unfolding among each

@@ -1,5 +1,5 @@
 -- Laws of a sheet's numbers, and of the characters between two places.
-use Rattle.std.specs.Prelude.{◌*◌, ◌+◌, ◌<◌, ◌≤◌, suc, zero, ℕ, Bool, ◌&&◌, cond, false, true, List, [], ◌∷◌, ◌≡◌, refl, eqb, leb, drop, length, replicate, take}
+use Rattle.std.specs.Prelude.{◌*◌, ◌+◌, ◌<◌, ◌≤◌, suc, zero, ℕ, Bool, ◌&&◌, cond, false, true, List, [], ◌∷◌, ◌≡◌, refl, eqb, leb, drop, length, replicate, take, Ok, Err}
 use Rattle.std.proofs.Math.Decide.{dec_lt}
 use Rattle.std.proofs.Common.{add-one, arith, ◌∙◌, sym, drop_of_length-le, length-take, drop-cons, get_or-take, length-take-le, eqb-true, le-leb, le-ltb, leb-true, lt-ltb}
 use Rattle.std.proofs.Math.Path.{ap}
@@ -14,8 +14,7 @@ use Rattle.scan.specs.Far.{Far, after}
 use Rattle.scan.specs.Near.{wide}
 use Rattle.scan.specs.Until.{left}
 use Rattle.reading.specs.Attribute.{attempt}
-use Rattle.reading.specs.declared.Attempt.{Attempt}
-use Rattle.reading.specs.declared.Attempt.TheVariants.{Closed, Failed}
+use Rattle.reading.specs.Shapes.{Attempt}
 use Rattle.sheet.specs.Adds.{between, deepest_in, empty_sheet, enter, failing, fails, texts_taken, up_to, work_limit}
 use Rattle.sheet.specs.Apart.{Stand, commented, comments, in_block, in_line, nested, opened, outside, second, whites}
 use Rattle.sheet.specs.Sheet.{added, is_sheet, plus, within}
@@ -166,8 +165,8 @@ fails-le [] o = omega arith
 fails-le (c ∷ cs) o = go (eqb c 35) (attempt cs (o + width_of c))
   where
     go : (b : Bool) (x : Attempt) → cond b (failing x) 0 ≤ 1
-    go true (Closed p m) = omega arith
-    go true (Failed p m) = omega arith
+    go true (Ok (p, m)) = omega arith
+    go true (Err (p, m)) = omega arith
     go false x = omega arith
 
 -- ---- comments are part of their gap

@@ -1,7 +1,7 @@
 -- What a token adds, from what its call answers: by its first character. A hash starts an attribute, or an attempt that failed; nothing else does.
 use Prim.Native.Nat.{◌+◌, ◌-◌, ◌<◌, ◌≤◌, suc, ℕ}
 use native.Mathlib.Omega.{arith}
-use Rattle.std.specs.Prelude.{Bool, cond, ◌≡◌, ltb}
+use Rattle.std.specs.Prelude.{Bool, cond, ◌≡◌, ltb, Ok, Err}
 use Rattle.std.proofs.Math.Bool.{false, true}
 use mathlib.Core.List.{List, [], ◌∷◌}
 use Rattle.std.proofs.Common.{◌∙◌, subst}
@@ -27,8 +27,7 @@ use Rattle.reading.proofs.Calls.{plain-taken}
 use Rattle.reading.specs.Calls.{SpanIn, Taken}
 use Rattle.reading.specs.Next.{starts, token, token_or_end}
 use Rattle.reading.specs.Symbols.{single, singles}
-use Rattle.reading.specs.declared.Attempt.{Attempt}
-use Rattle.reading.specs.declared.Attempt.TheVariants.{Closed, Failed}
+use Rattle.reading.specs.Shapes.{Attempt}
 use Rattle.reading.specs.declared.Call.{Call}
 use Rattle.reading.specs.declared.What.TheVariants.{End, Got}
 use Rattle.sheet.specs.Adds.{between, fails}
@@ -105,11 +104,11 @@ module _ (s : List ℕ) (o : ℕ) (t : Token) (to n : ℕ) where
   sharp_part_lem : (c : ℕ) (cs : List ℕ) → left s o ≡ c ∷ cs → eqb c 35 ≡ true → (x : Attempt) → attempt cs (o + width_of c) ≡ x → Tried cs (o + width_of c) x
       → Delivers (more 1 (hash_by Old o cs (o + width_of c) x)) t to n → part_of s t ≡ sharp_part (kind_number t.kind) t.end to n
   unfolding fails
-  sharp_part_lem c cs e q (Closed p m) y h z =
+  sharp_part_lem c cs e q (Ok (p, m)) y h z =
       let f : Far (left s o) o (suc m) p = rw e (far_one c cs o m p h.is) in
       let l : left s p ≡ drop m cs = sym (far_left s o (suc m) p f) ∙ ap (drop (suc m)) e in
       attribute-part m p (drop m cs) f l (rw (e, q, y)) z
-  sharp_part_lem c cs e q (Failed p m) y h z = hash-part c cs m e (rw (e, q, y)) z
+  sharp_part_lem c cs e q (Err (p, m)) y h z = hash-part c cs m e (rw (e, q, y)) z
 
   -- of every token
   pub part-is : Delivers (token_or_end Old (left s o) o) t to n → part_of s t ≡ part_by (if_next 35 (left s o) true false) (kind_number t.kind) t.end to n

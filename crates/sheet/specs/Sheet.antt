@@ -1,10 +1,8 @@
 -- A SHEET TAKES A TEXT. 02, E2: "Refusals: 12, 11, then 21 SheetFull, exactly for a 1,025th text, failed ones counted, then 20 for a sheet with a total
 -- above 2^50 for each text taken .. none is tallied or changes the sheet."
-use Rattle.std.specs.Prelude.{◌*◌, ◌+◌, ℕ, Bool, ◌&&◌, cond, true, List, [], ◌∷◌, leb, ltb, get_or, length, set, take}
+use Rattle.std.specs.Prelude.{◌*◌, ◌+◌, ℕ, Bool, ◌&&◌, cond, true, List, [], ◌∷◌, leb, ltb, get_or, length, set, take, Result, Ok, Err}
 use Rattle.record.specs.Checks.{checks}
 use Rattle.record.specs.Records.{refusal}
-use Rattle.record.specs.declared.Checked.{Checked}
-use Rattle.record.specs.declared.Checked.TheVariants.{Passed, Refused as Stopped}
 use Rattle.record.specs.declared.Code.TheVariants.{BadRecord, NoRoom, SheetFull}
 use Rattle.scan.specs.Depth.{deeper}
 use Rattle.reading.specs.declared.Outcome.{Outcome}
@@ -12,6 +10,7 @@ use Rattle.reading.specs.declared.Outcome.TheVariants.{Ended, Refused as Failed,
 use Rattle.sheet.specs.Adds.{adds, deepest_in, sheet_size, story, texts_taken, work_limit}
 use Rattle.sheet.specs.declared.Taken.{Taken}
 use Rattle.sheet.specs.declared.Taken.TheVariants.{Refused, Tallied, Whole}
+use Rattle.record.specs.declared.Refusal.{Refusal}
 
 -- "exactly for a 1,025th text"
 abbrev pub most_texts : ℕ
@@ -32,9 +31,9 @@ taken_as Ended = Whole
 taken_as (Failed r) = Tallied r
 taken_as Running = Whole
 
-abbrev pub taken_by : Checked → List ℕ → List ℕ → Taken
-taken_by (Stopped r) s sheet = Refused r
-taken_by Passed s sheet =
+abbrev pub taken_by : Result Unit Refusal → List ℕ → List ℕ → Taken
+taken_by (Err r) s sheet = Refused r
+taken_by (Ok tt) s sheet =
     cond (leb most_texts (get_or sheet texts_taken 0))
     (Refused (refusal SheetFull 0))
     (cond (is_sheet sheet) (taken_as (story s).how) (Refused (refusal BadRecord 0)))

@@ -1,5 +1,5 @@
 -- What a text adds, as the code adds it: a row of its own, or one more in a tally.
-use Rattle.std.specs.Prelude.{◌+◌, ◌-◌, ◌<◌, ◌≤◌, ℕ, false, true, List, ◌≡◌, leb, ltb, get_or, length, set}
+use Rattle.std.specs.Prelude.{◌+◌, ◌-◌, ◌<◌, ◌≤◌, ℕ, false, true, List, ◌≡◌, leb, ltb, get_or, length, set, Ok, Err}
 use Rattle.std.proofs.Math.Decide.{dec_lt}
 use Rattle.std.proofs.Common.{arith, ◌∙◌}
 use Rattle.std.proofs.Math.Path.{ap, refl, sym}
@@ -8,7 +8,6 @@ use borrow.Author.Tests.{le-leb, le-ltb, lt-leb, lt-ltb, ne_eqb}
 use Rattle.record.specs.Checks.{checks}
 use Rattle.record.specs.Numbers.{code_again, code_number, code_of, codes}
 use Rattle.record.specs.Records.{refusal}
-use Rattle.record.specs.declared.Checked.TheVariants.{Passed, Refused as Stopped}
 use Rattle.record.specs.declared.Code.{Code}
 use Rattle.record.specs.declared.Code.TheVariants.{BadRecord, NoRoom, SheetFull}
 use Rattle.record.specs.declared.Reading.TheVariants.{Old}
@@ -90,11 +89,11 @@ module _ (s sheet : List ℕ) where
     sized : ltb (length sheet) sheet_size ≡ false
     sized = le-ltb (length sheet) sheet_size l
 
-    pub take-stopped : (r : Refusal) → checks s 0 ≡ Stopped r → (Refused r ≡ taken s sheet) × (sheet ≡ held s sheet)
+    pub take-stopped : (r : Refusal) → checks s 0 ≡ Err r → (Refused r ≡ taken s sheet) × (sheet ≡ held s sheet)
     unfolding held taken
     take-stopped r e = rw (sized, e) (refl, refl)
 
-    module _ (e : checks s 0 ≡ Passed) where
+    module _ (e : checks s 0 ≡ (Ok tt)) where
       pub take_full : most_texts ≤ get_or sheet texts_taken 0 → (Refused (refusal SheetFull 0) ≡ taken s sheet) × (sheet ≡ held s sheet)
       unfolding held taken
       take_full h = let q = le-leb most_texts (get_or sheet texts_taken 0) h in rw (sized, e, q) (refl, refl)

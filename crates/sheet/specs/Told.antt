@@ -1,8 +1,7 @@
 -- THE COUNT OVER THE CHARACTERS SAYS WHAT A GAP HOLDS. 01: "Gaps: whitespace; `//` up to but not including newline or end; nested `/* */`."
-use Rattle.std.specs.Prelude.{◌+◌, ℕ, List, ◌≡◌, length, take}
+use Rattle.std.specs.Prelude.{◌+◌, ℕ, List, ◌≡◌, length, take, Ok}
 use Rattle.std.proofs.Common.{arith, length-append, length-take-le}
 use Rattle.scan.specs.Far.{Far}
-use Rattle.scan.specs.declared.Skip.TheVariants.{Past}
 use Rattle.reading.specs.Blank.{Blank, block, line, nothing, white}
 use Rattle.reading.proofs.Blanks.{gap-blank}
 use Rattle.reading.specs.Gaps.{gap}
@@ -42,7 +41,7 @@ unfolding whites
 told-apart b = let t = told b in (t, omega (arith, t, both b))
 
 -- of what the gap's reader passes: `gap-blank` says how it is blank
-pub gap-told-apart : (cs : List ℕ) (at p m : ℕ) (e : gap cs at ≡ Past p m)
+pub gap-told-apart : (cs : List ℕ) (at p m : ℕ) (e : gap cs at ≡ Ok (p, m))
     → (comments (take m cs) ≡ of_comments (gap-blank cs at p m e)) × (whites (take m cs) ≡ of_whitespace (gap-blank cs at p m e))
     × (whites (take m cs) + comments (take m cs) ≡ m)
 gap-told-apart cs at p m e =

@@ -1,9 +1,7 @@
 -- TEXTS, ONE AFTER ANOTHER. 02, E2: "Every total is the sum over the taken texts of a definition that reads each alone".
-use Rattle.std.specs.Prelude.{◌+◌, ℕ, Bool, cond, false, true, List, [], ◌∷◌, get_or, length}
+use Rattle.std.specs.Prelude.{◌+◌, ℕ, Bool, cond, false, true, List, [], ◌∷◌, get_or, length, Result, Ok, Err}
 use Rattle.utf8.specs.Utf8.{chars}
 use Rattle.record.specs.Checks.{checks}
-use Rattle.record.specs.declared.Checked.{Checked}
-use Rattle.record.specs.declared.Checked.TheVariants.{Passed, Refused as Stopped}
 use Rattle.record.specs.declared.Token.{Token}
 use Rattle.scan.specs.Depth.{deeper}
 use Rattle.reading.specs.Measures.{attempts}
@@ -14,6 +12,7 @@ use Rattle.sheet.specs.Adds.{adds, greatest, story}
 use Rattle.sheet.specs.Sheet.{held, taken}
 use Rattle.sheet.specs.declared.Taken.{Taken}
 use Rattle.sheet.specs.declared.Taken.TheVariants.{Refused, Tallied, Whole}
+use Rattle.record.specs.declared.Refusal.{Refusal}
 
 -- what a sheet holds that took the texts, or refused them, one after another
 unfoldable pub takes : List (List ℕ) → List ℕ → List ℕ
@@ -72,9 +71,9 @@ unfoldable pub cost : List ℕ → ℕ
 cost s = cost_by (story s).how s (story s).tokens
 
 -- whether a text passes the checks, and those of the texts that do
-abbrev pub passed_by : Checked → Bool
-passed_by Passed = true
-passed_by (Stopped r) = false
+abbrev pub passed_by : Result Unit Refusal → Bool
+passed_by (Ok tt) = true
+passed_by (Err r) = false
 
 unfoldable pub passing : List (List ℕ) → List (List ℕ)
 passing [] = []

@@ -2,7 +2,6 @@
 ghost use Rattle.std.specs.Prelude.{cond, false, ◌≡◌, ◌+◌, ◌<◌, ◌≤◌, ltb, get_or, length};
 ghost use Rattle.record.specs.Checks.{checks};
 ghost use Rattle.record.specs.Records.{refusal};
-ghost use Rattle.record.specs.declared.Checked.TheVariants.{Passed};
 ghost use Rattle.record.specs.declared.Code.TheVariants.{WorkLimit};
 ghost use Rattle.record.specs.declared.Reading.TheVariants.{Old};
 ghost use Rattle.scan.specs.Depth.{deeper};
@@ -41,7 +40,7 @@ pub(crate) fn enter(row: &mut [u64], i: usize, n: u64)
     requires { (i < length row.old) × (get_or row.old i 0 + n < 18446744073709551616) }
     ensures { row.new ≡ enter i n row.old }
 {
-    row[i] = row[i] + n;
+    row[i] += n;
 }
 
 // A gap's characters.
@@ -139,10 +138,7 @@ fn over(advances: u64, deep: u64, how: Outcome) -> Read
 pub(crate) fn greater(a: u64, b: u64) -> u64
     ensures { result ≡ deeper a b }
 {
-    if a < b {
-        return b;
-    }
-    a
+    a.max(b)
 }
 
 // A comment does not end, after n advances of its call.
@@ -206,8 +202,8 @@ fn turn(text: &[u8], row: &mut [u64], at: usize, count: u64) -> Read
     ensures { (result ≡ read_of text.now at count) × (row.new ≡ row_of text.now at count row.old) }
 {
     match crate::gaps::apart(text, at) {
-        Gap::Open(r, m) => lost(at, count, r, m as u64),
-        Gap::Blank(p, white, comment, deep) => after_gap(
+        Err((r, m)) => lost(at, count, r, m as u64),
+        Ok((p, white, comment, deep)) => after_gap(
             text,
             row,
             at,
@@ -222,7 +218,7 @@ fn turn(text: &[u8], row: &mut [u64], at: usize, count: u64) -> Read
 
 // The whole text, on an empty row. Of one that ends in an error the row says nothing.
 pub(crate) fn read_all(text: &[u8], row: &mut [u64]) -> Read
-    requires { (checks text.now 0 ≡ Passed) × (row.old ≡ empty_sheet) }
+    requires { (checks text.now 0 ≡ (Ok tt)) × (row.old ≡ empty_sheet) }
     ensures { (result.how ≡ (story text.now).how)
         × (result.advances ≡ (story text.now).state.count)
         × (result.how ≡ Ended → row.new ≡ entered text.now 0 (story text.now).tokens empty_sheet)
@@ -235,6 +231,7 @@ pub(crate) fn read_all(text: &[u8], row: &mut [u64]) -> Read
     let mut at: usize = 0;
     let mut count: u64 = 0;
     let mut deep: u64 = 0;
+    // a loop: a turn goes on where its call ends
     loop {
         let r = turn(text, row, at, count);
         deep = greater(deep, r.deep);

@@ -5,9 +5,9 @@ ghost use Rattle.sheet.specs.Apart.{apart};
 
 use crate::Gap;
 use scan::Turn;
-use utf8::{Sight, signs};
+use utf8::signs;
 
-// A gap of any kind.
+// A gap of any kind. A loop: a turn goes on where its reader ends.
 fn apart_far(s: &[u8], from: usize) -> Gap
     ensures { result ≡ apart (left s.now from) from }
 {
@@ -20,15 +20,15 @@ fn apart_far(s: &[u8], from: usize) -> Gap
         white += to - at;
         at = to;
         match utf8::char_at(s, at) {
-            Sight::Char { code, width } => {
+            Some((code, width)) => {
                 let x = tok::gaps::gap_turn(s, at, at + width, code);
-                let what = x.turn;
+                let what = x.what;
                 match what {
                     Turn::Stop => {
-                        return Gap::Blank(at, white, comment, deep);
+                        return Ok((at, white, comment, deep));
                     }
                     Turn::Fail(r, _, m) => {
-                        return Gap::Open(r, white + comment + 1 + m);
+                        return Err((r, white + comment + 1 + m));
                     }
                     Turn::Pass(p, m, _) => {
                         at = p;
@@ -41,8 +41,8 @@ fn apart_far(s: &[u8], from: usize) -> Gap
                     }
                 }
             }
-            Sight::End => {
-                return Gap::Blank(at, white, comment, deep);
+            None => {
+                return Ok((at, white, comment, deep));
             }
         }
     }
@@ -57,7 +57,7 @@ pub fn apart(s: &[u8], from: usize) -> Gap
         let x = s[to];
         if x < 128 {
             if x != b'/' {
-                return Gap::Blank(to, to - from, 0, 0);
+                return Ok((to, to - from, 0, 0));
             }
         }
     }

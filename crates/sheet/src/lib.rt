@@ -7,13 +7,12 @@ pub mod gaps;
 ghost use Rattle.std.specs.Prelude.{true, ◌≡◌, ℕ, ◌+◌, ◌<◌, ◌≤◌, get_or, length};
 ghost use Rattle.record.specs.Checks.{checks};
 ghost use Rattle.record.specs.Records.{refusal};
-ghost use Rattle.record.specs.declared.Checked.TheVariants.{Passed};
 ghost use Rattle.sheet.specs.Adds.{adds, empty_sheet, sheet_size, story, texts_taken};
-ghost use Rattle.sheet.specs.Sheet.{added, held, is_sheet, most_texts, plus, taken, taken_as};
+ghost use Rattle.sheet.specs.Sheet.{added, held, is_sheet, most_texts, plus, taken, taken_as, within};
 ghost use Rattle.sheet.specs.declared.Taken.TheVariants.{Refused};
 
 use reading::Outcome;
-use record::{Checked, Code, Refusal};
+use record::{Code, Refusal};
 
 // How many numbers a sheet has; 0 to 53 are the tokens of each kind.
 pub const SHEET_SIZE: usize = 96;
@@ -39,11 +38,7 @@ pub enum Taken {
 
 // Where a gap ends, how many of its characters are whitespace and how many are of comments, and how deep its comments go; or a comment that does not end,
 // with the advances.
-#[derive(Clone, Copy)]
-pub enum Gap {
-    Blank(usize, usize, usize, usize),
-    Open(Refusal, usize),
-}
+pub type Gap = Result<(usize, usize, usize, usize), (Refusal, usize)>;
 
 // What a token adds besides one of its kind: its characters, what is dropped after it, the attempt that failed at its place.
 #[derive(Clone, Copy)]
@@ -56,11 +51,24 @@ pub struct Part {
 // Where a call of a text leads, with the advances so far; or, where it is not going, how the text ended. Beside it how deep the comments go.
 #[derive(Clone, Copy)]
 pub struct Read {
+    // beside values that count either way: `row_of` and `Going` of specs/ say so
     pub going: bool,
     pub at: usize,
     pub advances: u64,
     pub deep: u64,
     pub how: Outcome,
+}
+
+// Whether no number is above another.
+fn is_within(list: &[u64], most: u64) -> bool
+    ensures { result ≡ within most list.now }
+{
+    for n in list {
+        if most < *n {
+            return false;
+        }
+    }
+    true
 }
 
 // Whether no number is above 2^50 for each text taken.
@@ -69,14 +77,7 @@ fn is_sheet(sheet: &[u64]) -> bool
     ensures { result ≡ is_sheet sheet.now }
 {
     let most = alone::WORK_LIMIT * sheet[TEXTS_TAKEN];
-    let mut i: usize = 0;
-    while i < SHEET_SIZE {
-        if most < sheet[i] {
-            return false;
-        }
-        i += 1;
-    }
-    true
+    is_within(&sheet[..SHEET_SIZE], most)
 }
 
 // Each number of the sheet with what the row adds to it.
@@ -84,10 +85,8 @@ fn sum_onto(sheet: &mut [u64], row: &[u64])
     requires { (length row.now ≤ length sheet.old) × ((i : ℕ) → i < length row.now → get_or sheet.old i 0 + get_or row.now i 0 < 18446744073709551616) }
     ensures { sheet.new ≡ plus sheet.old row.now }
 {
-    let mut i: usize = 0;
-    while i < row.len() {
-        sheet[i] = sheet[i] + row[i];
-        i += 1;
+    for (i, n) in row.iter().enumerate() {
+        sheet[i] += *n;
     }
 }
 
@@ -100,7 +99,7 @@ fn empty_row() -> [u64; SHEET_SIZE]
 
 // A text that passed the checks, onto a sheet that has room for it.
 fn add(text: &[u8], sheet: &mut [u64]) -> Taken
-    requires { (checks text.now 0 ≡ Passed) × (sheet_size ≤ length sheet.old) × (get_or sheet.old texts_taken 0 < most_texts) × (is_sheet sheet.old ≡ true) }
+    requires { (checks text.now 0 ≡ (Ok tt)) × (sheet_size ≤ length sheet.old) × (get_or sheet.old texts_taken 0 < most_texts) × (is_sheet sheet.old ≡ true) }
     ensures { (result ≡ taken_as (story text.now).how) × (sheet.new ≡ added sheet.old (adds text.now)) }
 {
     let mut row = empty_row();
@@ -141,8 +140,8 @@ pub fn take(text: &[u8], sheet: &mut [u64]) -> Taken
         return refused(Code::NoRoom);
     }
     match record::checks(text, 0) {
-        Checked::Refused(r) => Taken::Refused(r),
-        Checked::Passed => {
+        Err(r) => Taken::Refused(r),
+        Ok(()) => {
             if MOST_TEXTS <= sheet[TEXTS_TAKEN] {
                 return refused(Code::SheetFull);
             }

@@ -1,5 +1,5 @@
 -- WHAT A LITERAL SPANS (specs/Strings.antt): its reader, of the text alone.
-use Rattle.std.specs.Prelude.{ℕ, zero, suc, ◌+◌, ◌-◌, ◌<◌, Bool, ◌&&◌, not, ltb, get_or}
+use Rattle.std.specs.Prelude.{ℕ, zero, suc, ◌+◌, ◌-◌, ◌<◌, Bool, ◌&&◌, not, ltb, get_or, Ok, Err}
 use native.Mathlib.Omega.{arith}
 use Rattle.std.proofs.Math.Bool.{false, true}
 use mathlib.Core.List.{List, [], ◌∷◌}
@@ -16,8 +16,7 @@ use Rattle.record.specs.declared.Kind.TheVariants.{CharLiteral, StringLiteral}
 use Rattle.scan.specs.Far.{after, until-before}
 use Rattle.scan.specs.Readers.{str_done, str_step, string_end}
 use Rattle.scan.specs.Until.{until}
-use Rattle.scan.specs.declared.Found.{Found}
-use Rattle.scan.specs.declared.Found.TheVariants.{At, Nothing}
+use Rattle.scan.specs.Shapes.{Found, same_ok}
 use Rattle.scan.specs.declared.Str.{Str}
 use Rattle.scan.specs.declared.Str.TheVariants.{Closed, Escaped, Plain}
 use Rattle.reading.specs.Answers.{deliver, refuse}
@@ -69,31 +68,31 @@ pub record Ends (first : Bool) (q : ℕ) (cs : List ℕ) (n m : ℕ) : Type 0 wh
   pub is : First first q cs index
 
 abbrev EndsIn : Bool → ℕ → List ℕ → ℕ → Found → Type 0
-EndsIn first q cs n (At p m) = Ends first q cs n m
-EndsIn first q cs n (Nothing p m) = (i : ℕ) → Closes first q cs i → ⊥
+EndsIn first q cs n (Ok (p, m)) = Ends first q cs n m
+EndsIn first q cs n (Err (p, m)) = (i : ℕ) → Closes first q cs i → ⊥
 
 module _ (q : ℕ) (plainly : eqb q 'backslash ≡ false) where
   -- a character that doesn't close
   turn : (first : Bool) (c : ℕ) (cs : List ℕ) (n : ℕ) (f : Found) → (Closes first q (c ∷ cs) 0 → ⊥) → EndsIn (eqb c 'backslash && not first) q cs (n + 1) f → EndsIn first q (c ∷ cs) n f
-  turn first c cs n (At p m) w h = let y = h.counted in record { index = suc h.index; counted = omega arith; is = first_on first q c cs h.index w h.is }
-  turn first c cs n (Nothing p m) w h = none-on first q c cs w h
+  turn first c cs n (Ok (p, m)) w h = let y = h.counted in record { index = suc h.index; counted = omega arith; is = first_on first q c cs h.index w h.is }
+  turn first c cs n (Err (p, m)) w h = none-on first q c cs w h
 
   -- one that does
-  here : (c : ℕ) (cs : List ℕ) (at n : ℕ) (f : Found) → c ≡ q → At at n ≡ f → EndsIn false q (c ∷ cs) n f
+  here : (c : ℕ) (cs : List ℕ) (at n : ℕ) (f : Found) → c ≡ q → Ok (at, n) ≡ f → EndsIn false q (c ∷ cs) n f
   unfolding escaped_from
-  here c cs at n (At p m) e u =
-      let y : n ≡ m = cc in
+  here c cs at n (Ok (p, m)) e u =
+      let y : n ≡ m = (same_ok _ _ _ _ u).1 in
       record {
         index = 0;
         counted = omega arith;
         is = record { closes = record { within = omega arith; mark = e; plain = refl }; earlier = λ j l k. omega arith };
       }
-  here c cs at n (Nothing p m) e u = let w : ◌≡◌ {A = ℕ} 0 1 = cc in absurd (omega arith)
+  here c cs at n (Err (p, m)) e u = let w : ◌≡◌ {A = ℕ} 0 1 = cc in absurd (omega arith)
 
   ends : (cs : List ℕ) (first : Bool) (at n : ℕ) (f : Found) → until (str_step q) str_done (state first) cs at n ≡ f → EndsIn first q cs n f
   unfolding until escaped_from
-  ends [] first at n (At p m) e = let w : ◌≡◌ {A = ℕ} 0 1 = cc in absurd (omega arith)
-  ends [] first at n (Nothing p m) e = λ i k. let l = k.within in omega arith
+  ends [] first at n (Ok (p, m)) e = let w : ◌≡◌ {A = ℕ} 0 1 = cc in absurd (omega arith)
+  ends [] first at n (Err (p, m)) e = λ i k. let l = k.within in omega arith
   ends (c ∷ cs) first at n f e = go first (eqb c 'backslash) (eqb c q) e refl refl (λ b. ends cs b (at + width_of c) (n + 1) f)
     where
       go : (first b d : Bool) → until (str_step q) str_done (state first) (c ∷ cs) at n ≡ f → eqb c 'backslash ≡ b → eqb c q ≡ d
@@ -120,22 +119,22 @@ unique first q cs i j a b = go (ltb i j) (ltb j i) refl refl
 -- ---- THE THEOREMS. The characters cs follow the opening mark, and stand at the place at.
 
 -- of the reader of strings, wherever it is used: in a literal, in code and in an attribute
-pub string_end_lem : (q : ℕ) → eqb q 'backslash ≡ false → (cs : List ℕ) (at m : ℕ) → ClosedAt q cs m → string_end q cs at ≡ At (after m cs at) m
+pub string_end_lem : (q : ℕ) → eqb q 'backslash ≡ false → (cs : List ℕ) (at m : ℕ) → ClosedAt q cs m → string_end q cs at ≡ Ok (after m cs at, m)
 string_end_lem q plainly cs at m h = go (string_end q cs at) refl (ends q plainly cs false at 0 (string_end q cs at) refl)
   where
-    go : (f : Found) → string_end q cs at ≡ f → EndsIn false q cs 0 (string_end q cs at) → string_end q cs at ≡ At (after m cs at) m
-    go (At p n) e k =
+    go : (f : Found) → string_end q cs at ≡ f → EndsIn false q cs 0 (string_end q cs at) → string_end q cs at ≡ Ok (after m cs at, m)
+    go (Ok (p, n)) e k =
         let k' : Ends false q cs 0 n = rw e at k in
         let y : n ≡ m = k'.counted ∙ (let u = unique false q cs m k'.index h k'.is in omega arith) in
         let s = until-before (str_step q) str_done p n cs Plain at 0 e in
         let z : n - 0 ≡ m = omega arith in
         let w : p ≡ after m cs at = s.far.there ∙ ap (λ (j : ℕ). after j cs at) z in
         rw (e, w, y)
-    go (Nothing p n) e k = let k' : NeverClosed q cs = rw e at k in absurd (k' m h.closes)
+    go (Err (p, n)) e k = let k' : NeverClosed q cs = rw e at k in absurd (k' m h.closes)
 
-pub string_found : (q : ℕ) → eqb q 'backslash ≡ false → (cs : List ℕ) (at p m : ℕ) → string_end q cs at ≡ At p m → ClosedAt q cs m × (p ≡ after m cs at)
+pub string_found : (q : ℕ) → eqb q 'backslash ≡ false → (cs : List ℕ) (at p m : ℕ) → string_end q cs at ≡ Ok (p, m) → ClosedAt q cs m × (p ≡ after m cs at)
 string_found q plainly cs at p m e =
-    let k : Ends false q cs 0 m = ends q plainly cs false at 0 (At p m) e in
+    let k : Ends false q cs 0 m = ends q plainly cs false at 0 (Ok (p, m)) e in
     let s = until-before (str_step q) str_done p m cs Plain at 0 e in
     let i = k.counted in
     let y : k.index ≡ m = omega arith in
@@ -156,16 +155,16 @@ module _ (q : ℕ) (plainly : eqb q 'backslash ≡ false) (kind : Kind) (code : 
   refused h = go (string_end q cs at) refl (ends q plainly cs false at 0 (string_end q cs at) refl)
     where
       go : (f : Found) → string_end q cs at ≡ f → EndsIn false q cs 0 (string_end q cs at) → literal.what ≡ Error (refusal code o)
-      go (At p n) e k = let k' : Ends false q cs 0 n = rw e at k in absurd (h k'.index k'.is.closes)
-      go (Nothing p n) e k = rw e
+      go (Ok (p, n)) e k = let k' : Ends false q cs 0 n = rw e at k in absurd (h k'.index k'.is.closes)
+      go (Err (p, n)) e k = rw e
 
   only_if : literal.what ≡ Error (refusal code o) → NeverClosed q cs
   unfolding deliver
   only_if w = go (string_end q cs at) refl (ends q plainly cs false at 0 (string_end q cs at) refl)
     where
       go : (f : Found) → string_end q cs at ≡ f → EndsIn false q cs 0 (string_end q cs at) → NeverClosed q cs
-      go (At p n) e k = let u : Got (token_of kind o (p + 1) at p) ≡ Error (refusal code o) = rw e at w in let z : ◌≡◌ {A = ℕ} 0 1 = cc in absurd (omega arith)
-      go (Nothing p n) e k = rw e at k
+      go (Ok (p, n)) e k = let u : Got (token_of kind o (p + 1) at p) ≡ Error (refusal code o) = rw e at w in let z : ◌≡◌ {A = ℕ} 0 1 = cc in absurd (omega arith)
+      go (Err (p, n)) e k = rw e at k
 
 -- strings
 module _ (o : ℕ) (cs : List ℕ) (at : ℕ) where

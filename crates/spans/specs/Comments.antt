@@ -1,7 +1,7 @@
 -- WHAT A BLOCK COMMENT SPANS, said without its reader. 01: "nested `/* */`. In `/*/` the slash doesn't close. After a nested open or close, neither its star
 -- nor its slash starts another mark." `Comment` (reading/specs/Blank) says which characters after the opening mark are a comment: its marks balance, and
 -- the last of them is its end.
-use Rattle.std.specs.Prelude.{ℕ, suc, ◌+◌, ◌-◌, Bool, cond, ◌≡◌, ltb, drop, length, take}
+use Rattle.std.specs.Prelude.{ℕ, suc, ◌+◌, ◌-◌, Bool, cond, ◌≡◌, ltb, drop, length, take, Ok, Err}
 use Rattle.std.proofs.Common.{arith, sym, ◌∙◌, take-append-drop, le-ltb}
 use Rattle.std.proofs.Math.Bool.{false, true}
 use mathlib.Core.List.{List, [], ◌∷◌, ◌++◌}
@@ -19,9 +19,7 @@ use Rattle.scan.specs.Seek.{block_comment}
 use Rattle.scan.specs.Until.{until}
 use Rattle.scan.specs.declared.Com.{Com}
 use Rattle.scan.specs.declared.Com.TheVariants.{Complete, Open, Slash, Star}
-use Rattle.scan.specs.declared.Found.{Found}
-use Rattle.scan.specs.declared.Found.TheVariants.{At, Nothing}
-use Rattle.scan.specs.declared.Skip.TheVariants.{Lost, Past}
+use Rattle.scan.specs.Shapes.{Found, Skip, same_ok}
 use Rattle.reading.specs.Blank.{Comment, closes, ends, is_mark, opens, passes}
 use Rattle.reading.specs.Blanks.{comment_blank}
 use Rattle.spans.specs.Strings.{goes_on, stops}
@@ -30,7 +28,7 @@ use Rattle.spans.specs.Strings.{goes_on, stops}
 pub record EndsWith (st : Com) (xs rest : List ℕ) (at n : ℕ) : Type 0 where
   pub place : ℕ
   pub count : ℕ
-  pub found : until com_step com_done st (xs ++ rest) at n ≡ At place count
+  pub found : until com_step com_done st (xs ++ rest) at n ≡ Ok (place, count)
   pub counted : suc count ≡ n + length xs
 
 module _ (st st' : Com) (c : ℕ) (xs rest : List ℕ) (at n : ℕ) where
@@ -44,7 +42,7 @@ module _ (st st' : Com) (c : ℕ) (xs rest : List ℕ) (at n : ℕ) where
 module _ (d : ℕ) (c : ℕ) (xs rest : List ℕ) (at n : ℕ) where
   same-until : (st : Com) → com_step st c ≡ com_step (Open d) c → until com_step com_done st (c ∷ (xs ++ rest)) at n ≡ until com_step com_done (Open d) (c ∷ (xs ++ rest)) at n
   unfolding until
-  same-until st e = ap (λ (x : Com). elim (com_done x) [ true ↦ At at n | false ↦ until com_step com_done x (xs ++ rest) (at + width_of c) (n + 1) ]) e
+  same-until st e = ap (λ (x : Com). elim (com_done x) [ true ↦ Ok (at, n) | false ↦ until com_step com_done x (xs ++ rest) (at + width_of c) (n + 1) ]) e
 
   same_step : (st : Com) → com_step st c ≡ com_step (Open d) c → EndsWith (Open d) (c ∷ xs) rest at n → EndsWith st (c ∷ xs) rest at n
   same_step st e h = record { place = h.place; count = h.count; found = same-until st e ∙ h.found; counted = h.counted }
@@ -110,41 +108,41 @@ whole (passes {d} {xs} c m h) rest at n = pass d c rest at n xs (some h) m (whol
 -- ---- THE THEOREMS. The characters cs follow the opening mark, and stand at the place at; the mark stands at o.
 module _ (o : ℕ) (cs : List ℕ) (at : ℕ) where
   -- what the reader passes is a comment
-  pub comment_spans : (p k : ℕ) → block_comment o cs at ≡ Past p k → Comment 1 (take k cs)
+  pub comment_spans : (p k : ℕ) → block_comment o cs at ≡ Ok (p, k) → Comment 1 (take k cs)
   comment_spans p k e = go (comment_end cs at) refl
     where
       go : (f : Found) → comment_end cs at ≡ f → Comment 1 (take k cs)
-      go (At q m) g =
-          let u : Past (q + 1) (m + 1) ≡ Past p k = rw g at e in
-          let y : m + 1 ≡ k = cc in
+      go (Ok (q, m)) g =
+          let u : ◌≡◌ {A = Skip} (Ok (q + 1, m + 1)) (Ok (p, k)) = rw g at e in
+          let y : m + 1 ≡ k = (same_ok _ _ _ _ u).1 in
           let z : k ≡ suc m = omega arith in
           rw z (comment_blank cs at q m g)
-      go (Nothing q m) g = let u = rw g at e in let w : ◌≡◌ {A = ℕ} 0 1 = cc in absurd (omega arith)
+      go (Err (q, m)) g = let u = rw g at e in let w : ◌≡◌ {A = ℕ} 0 1 = cc in absurd (omega arith)
 
   -- and where a comment stands, it is passed to its last character and no further
-  pub comment_passed : (xs rest : List ℕ) → cs ≡ xs ++ rest → Comment 1 xs → block_comment o cs at ≡ Past (after (length xs) cs at) (length xs)
+  pub comment_passed : (xs rest : List ℕ) → cs ≡ xs ++ rest → Comment 1 xs → block_comment o cs at ≡ Ok (after (length xs) cs at, length xs)
   comment_passed xs rest e c =
       let h : EndsWith (Open 1) xs rest at 0 = whole c rest at 0 in
       let y = h.counted in
-      let f : comment_end cs at ≡ At h.place h.count = rw e h.found in
-      let b : block_comment o cs at ≡ Past (h.place + 1) (h.count + 1) = rw f in
+      let f : comment_end cs at ≡ Ok (h.place, h.count) = rw e h.found in
+      let b : block_comment o cs at ≡ Ok (h.place + 1, h.count + 1) = rw f in
       let s : Far cs at (h.count + 1) (h.place + 1) = (rw b at (block_sound o cs at)).is in
       let n : h.count + 1 ≡ length xs = omega arith in
-      b ∙ ap (λ (p : ℕ). Past p (h.count + 1)) s.there ∙ ap (λ (k : ℕ). Past (after k cs at) k) n
+      b ∙ ap (λ (p : ℕ). Ok (p, h.count + 1)) s.there ∙ ap (λ (k : ℕ). Ok (after k cs at, k)) n
 
   -- 10 at the opening mark exactly if no comment stands there
   abbrev pub NoComment : Type 0
   NoComment = (xs rest : List ℕ) → cs ≡ xs ++ rest → Comment 1 xs → ⊥
 
-  pub comment_refused : NoComment → (p : ℕ) × (k : ℕ) × (block_comment o cs at ≡ Lost (refusal UnterminatedBlockComment o) p k)
+  pub comment_refused : NoComment → (p : ℕ) × (k : ℕ) × (block_comment o cs at ≡ Err (refusal UnterminatedBlockComment o, p, k))
   comment_refused h = go (comment_end cs at) refl
     where
-      go : (f : Found) → comment_end cs at ≡ f → (p : ℕ) × (k : ℕ) × (block_comment o cs at ≡ Lost (refusal UnterminatedBlockComment o) p k)
-      go (At q m) g = absurd (h (take (suc m) cs) (drop (suc m) cs) (sym (take-append-drop (suc m) cs)) (comment_blank cs at q m g))
-      go (Nothing q m) g = (q, m, rw g)
+      go : (f : Found) → comment_end cs at ≡ f → (p : ℕ) × (k : ℕ) × (block_comment o cs at ≡ Err (refusal UnterminatedBlockComment o, p, k))
+      go (Ok (q, m)) g = absurd (h (take (suc m) cs) (drop (suc m) cs) (sym (take-append-drop (suc m) cs)) (comment_blank cs at q m g))
+      go (Err (q, m)) g = (q, m, rw g)
 
-  pub comment_refused_only : (r : Refusal) (p k : ℕ) → block_comment o cs at ≡ Lost r p k → NoComment
+  pub comment_refused_only : (r : Refusal) (p k : ℕ) → block_comment o cs at ≡ Err (r, p, k) → NoComment
   comment_refused_only r p k e xs rest q c =
-      let u : Lost r p k ≡ Past (after (length xs) cs at) (length xs) = sym e ∙ comment_passed xs rest q c in
+      let u : ◌≡◌ {A = Skip} (Err (r, p, k)) (Ok (after (length xs) cs at, length xs)) = sym e ∙ comment_passed xs rest q c in
       let w : ◌≡◌ {A = ℕ} 0 1 = cc in
       omega arith

@@ -2,7 +2,7 @@
 -- greatest depth, 1 for a plain one", "No block comment is 0". `Comment` (reading/specs/Blank) says which characters after the opening mark are a comment.
 use Prim.Native.Nat.{◌+◌, ◌-◌, ◌≤◌, suc, zero, ℕ}
 use native.Mathlib.Omega.{arith}
-use Rattle.std.specs.Prelude.{Bool, ◌&&◌, cond, eqb, ltb, drop, length, take}
+use Rattle.std.specs.Prelude.{Bool, ◌&&◌, cond, eqb, ltb, drop, length, take, Ok, Err}
 use Rattle.std.proofs.Math.Bool.{false, true}
 use mathlib.Core.List.{List, [], ◌++◌, ◌∷◌}
 use Rattle.std.proofs.Common.{◌∙◌, take-append-drop, drop-drop, take-add, eqb-true, le-ltb}
@@ -21,10 +21,7 @@ use Rattle.scan.specs.Seek.{line_skip, skip_more, through}
 use Rattle.scan.specs.Walk.{turn_of, walk_from}
 use Rattle.scan.specs.declared.Com.{Com}
 use Rattle.scan.specs.declared.Com.TheVariants.{Complete, Open, Slash, Star}
-use Rattle.scan.specs.declared.Found.{Found}
-use Rattle.scan.specs.declared.Found.TheVariants.{At, Nothing}
-use Rattle.scan.specs.declared.Skip.{Skip}
-use Rattle.scan.specs.declared.Skip.TheVariants.{Lost, Past}
+use Rattle.scan.specs.Shapes.{Found, Skip, same_ok}
 use Rattle.scan.specs.declared.Turn.{Turn}
 use Rattle.scan.specs.declared.Turn.TheVariants.{Fail, Pass, Stop}
 use Rattle.reading.specs.Blank.{Comment, closes, ends, is_mark, line_over, one_line, opens, passes}
@@ -179,12 +176,12 @@ deep (passes {d} {xs} c i h) rest m = deep_pass d rest c xs (some h) i (deep h r
 pub comment_deep : (xs rest : List ℕ) → Comment 1 xs → comment_depth (xs ++ rest) ≡ most 1 xs
 comment_deep xs rest c = deep c rest 1 ∙ deeper-right 1 (most 1 xs) (most_least 1 xs)
 
-pub comment_deepest : (cs : List ℕ) (at p m : ℕ) → comment_end cs at ≡ At p m → comment_depth cs ≡ most 1 (take (suc m) cs)
+pub comment_deepest : (cs : List ℕ) (at p m : ℕ) → comment_end cs at ≡ Ok (p, m) → comment_depth cs ≡ most 1 (take (suc m) cs)
 comment_deepest cs at p m e =
     ap comment_depth (sym (take-append-drop (suc m) cs)) ∙ comment_deep (take (suc m) cs) (drop (suc m) cs) (comment_blank cs at p m e)
 
 -- so of a comment that a walk passes, in a gap or in code, from its opening mark on
-pub cover_marks : (cs : List ℕ) (at p m : ℕ) → comment_end cs at ≡ At p m → cover_depth '/ ('* ∷ cs) ≡ most 1 (take (suc m) cs)
+pub cover_marks : (cs : List ℕ) (at p m : ℕ) → comment_end cs at ≡ Ok (p, m) → cover_depth '/ ('* ∷ cs) ≡ most 1 (take (suc m) cs)
 unfolding slash_depth
 cover_marks cs at p m e = comment_deepest cs at p m e
 
@@ -246,20 +243,20 @@ module _ (cs : List ℕ) (at : ℕ) where
   line-slashes m (suc k) y a b xs rest d e h = rw (deeper_of_none d, y) (line {xs = xs} (take k cs) a (rw (← e, y) b) h)
 
   line-covers : (x : Skip) → line_skip ('/ ∷ cs) at ≡ x → Covers '/ ('/ ∷ cs) (turn_of 0 x)
-  line-covers (Past p m) e =
+  line-covers (Ok (p, m)) e =
       let l = line-from p m ('/ ∷ cs) false at 0 e in
       let y = l.counted in
       record { is = line-slashes m l.passed (omega arith) l.one l.over }
-  line-covers (Lost r p m) e = record { is = tt }
+  line-covers (Err (r, p, m)) e = record { is = tt }
 
   block_covers : (o : ℕ) (f : Found) → comment_end cs at ≡ f → Covers '/ ('* ∷ cs) (turn_of 0 (skip_more 1 (through UnterminatedBlockComment o f)))
   unfolding slash_depth
-  block_covers o (At p m) e = record {
+  block_covers o (Ok (p, m)) e = record {
     is = λ xs rest d g h.
         let z : 1 + (m + 1) ≡ suc (suc m) = omega arith in
         rw (z, comment_deepest cs at p m e) (block (take (suc m) cs) (comment_blank cs at p m e) h);
   }
-  block_covers o (Nothing p m) e = record { is = tt }
+  block_covers o (Err (p, m)) e = record { is = tt }
 
 covers-test : (c : ℕ) (cs : List ℕ) (t : Bool) (x y : Turn) → (t ≡ true → Covers c cs x) → (t ≡ false → Covers c cs y) → Covers c cs (cond t x y)
 covers-test c cs true x y p q = p refl
@@ -299,10 +296,10 @@ cover_then : (c : ℕ) (cs : List ℕ) (p m b j d : ℕ) → CoversIn c cs (Pass
 cover_then c cs p m b j d f h =
     rw (take-add m j cs, ← (drop-drop j m cs)) (f (take j (drop m cs)) (drop j (drop m cs)) d (rw (take-append-drop j (drop m cs))) h)
 
-walk_layers : (p m k : ℕ) (cs : List ℕ) (b at n : ℕ) → k ≤ length cs → walk_from gap_turn gap_last k cs b at n ≡ Past p m
+walk_layers : (p m k : ℕ) (cs : List ℕ) (b at n : ℕ) → k ≤ length cs → walk_from gap_turn gap_last k cs b at n ≡ Ok (p, m)
     → Passed k n m cs (depth_from gap_turn k cs b at 0)
 unfolding walk_from depth_from
-walk_layers p m zero [] b at n l e = passed_none m n [] cc
+walk_layers p m zero [] b at n l e = passed_none m n [] (same_ok _ _ _ _ e).1
 walk_layers p m (suc k) [] b at n l e = absurd (omega arith)
 walk_layers p m (suc k) (c ∷ cs) b at n l e =
     let h = walk_layers p m k cs b (at + width_of c) (n + 1) (omega arith) e in
@@ -313,14 +310,14 @@ walk_layers p m zero (c ∷ cs) b at n l e =
     (λ j b'. walk_layers p m j cs b' (at + width_of c) (n + 1))
   where
     go : (t : Turn) → gap_turn b c cs at (at + width_of c) ≡ t → Good cs (at + width_of c) (gap_turn b c cs at (at + width_of c)) → Covers c cs (gap_turn b c cs at (at + width_of c))
-        → ((j b' : ℕ) → j ≤ length cs → walk_from gap_turn gap_last j cs b' (at + width_of c) (n + 1) ≡ Past p m
+        → ((j b' : ℕ) → j ≤ length cs → walk_from gap_turn gap_last j cs b' (at + width_of c) (n + 1) ≡ Ok (p, m)
         → Passed j (n + 1) m cs (depth_from gap_turn j cs b' (at + width_of c) 0))
         → Passed 0 n m (c ∷ cs) (depth_from gap_turn 0 (c ∷ cs) b at 0)
     go Stop q g v f =
-        let u : Past at n ≡ Past p m = rw (q, walk_from) at e in
-        rw (depth_stops gap_turn c cs b at q) (passed_none m n (c ∷ cs) cc)
+        let u : Ok (at, n) ≡ Ok (p, m) = rw (q, walk_from) at e in
+        rw (depth_stops gap_turn c cs b at q) (passed_none m n (c ∷ cs) (same_ok _ _ _ _ u).1)
     go (Fail r x i) q g v f =
-        let u : Lost r x (n + 1 + i) ≡ Past p m = rw (q, walk_from) at e in
+        let u : Err (r, x, n + 1 + i) ≡ Ok (p, m) = rw (q, walk_from) at e in
         let w : ◌≡◌ {A = ℕ} 0 1 = cc in
         absurd (omega arith)
     go (Pass x i b') q g v f =
@@ -331,7 +328,7 @@ walk_layers p m zero (c ∷ cs) b at n l e =
         rw (depth-covers gap_turn c cs b at x i b' q) (record { by = suc (i + h.by); counted = omega arith; layers = z })
 
 -- ---- THE THEOREM OF A GAP. What its reader passes has the depth that it answers.
-pub gap_layers : (cs : List ℕ) (at p m : ℕ) → gap cs at ≡ Past p m → Layers (drop m cs) (take m cs) (walk_depth gap_turn cs at)
+pub gap_layers : (cs : List ℕ) (at p m : ℕ) → gap cs at ≡ Ok (p, m) → Layers (drop m cs) (take m cs) (walk_depth gap_turn cs at)
 unfolding gap
 gap_layers cs at p m e =
     let h = walk_layers p m 0 cs 0 at 0 (omega arith) e in

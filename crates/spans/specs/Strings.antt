@@ -1,6 +1,6 @@
 -- WHAT A LITERAL SPANS, said without its reader. 01: "Strings end at the first `"` that isn't escaped by a backslash; 5 exactly if there is none." So do
 -- character literals, at the first such `'`, with 6. That their readers do is in proofs/Strings.antt.
-use Rattle.std.specs.Prelude.{ℕ, zero, suc, ◌+◌, ◌<◌, Bool, ◌&&◌, not, get_or, length}
+use Rattle.std.specs.Prelude.{ℕ, zero, suc, ◌+◌, ◌<◌, Bool, ◌&&◌, not, get_or, length, Ok}
 use Rattle.std.proofs.Math.Bool.{false, true}
 use mathlib.Core.List.{List, ◌∷◌}
 use Rattle.std.proofs.Math.Path.{◌≡◌, ap}
@@ -9,7 +9,6 @@ use Rattle.std.proofs.Math.Dec.{eqb}
 use Rattle.utf8.specs.Chars.{'backslash}
 use Rattle.utf8.specs.Utf8.{width_of}
 use Rattle.scan.specs.Until.{until}
-use Rattle.scan.specs.declared.Found.TheVariants.{At}
 
 -- A character is escaped if the one before it is a backslash that isn't escaped itself. The first one is as is said.
 unfoldable pub escaped_from : Bool → List ℕ → ℕ → Bool
@@ -44,6 +43,6 @@ module _ {S : Type 0} (step : S → ℕ → S) (done : S → Bool) (c : ℕ) (cs
   unfolding until
   goes_on st st' e d = let f : done (step st c) ≡ false = ap done e ∙ d in rw (f, until) (rw e)
 
-  pub stops : (st st' : S) → step st c ≡ st' → done st' ≡ true → until step done st (c ∷ cs) at n ≡ At at n
+  pub stops : (st st' : S) → step st c ≡ st' → done st' ≡ true → until step done st (c ∷ cs) at n ≡ Ok (at, n)
   unfolding until
   stops st st' e d = let f : done (step st c) ≡ true = ap done e ∙ d in rw (f, until)

@@ -1,6 +1,6 @@
 -- WHAT A RECORDED ANSWER ADDS, laid out as a sheet: read off the recorded numbers and the text alone, nothing of the tokenizer is used. The request for 02, E2: "the sum of
 -- the Rust's recorded answers in replay's file equals the sheet's totals over the same texts".
-use Rattle.std.specs.Prelude.{ℕ, suc, ◌+◌, ◌-◌, ◌%◌, ◌^◌, Bool, cond, ◌&&◌, List, [], ◌∷◌, length, take, drop, ◌==◌, nat_le, nat_lt, slice_index, slice_range, slice_set}
+use Rattle.std.specs.Prelude.{ℕ, suc, ◌+◌, ◌-◌, ◌%◌, ◌^◌, Bool, cond, ◌&&◌, List, [], ◌∷◌, length, drop, ◌==◌, nat_le, nat_lt, slice_index, slice_range, slice_set}
 
 -- the numbers of a sheet; a row's 55 holds whitespace and comments together, since the Rust's answers do not tell them apart
 abbrev pub in_tokens : ℕ

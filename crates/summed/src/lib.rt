@@ -1,10 +1,10 @@
 // What a recorded answer adds, laid out as a sheet, and whether a sheet holds the same.
 #![tactic(auto)]
 
-ghost use Rattle.std.specs.Prelude.{◌≡◌, ◌+◌, ◌-◌, ◌≤◌, length, slice_set};
-ghost use Rattle.summed.specs.Summed.{answer_onto, as_row, between, dropped, ended_onto, failed, fewer, joined, more, recorded_onto, tallies, token_onto, tokens_onto};
+ghost use Rattle.std.specs.Prelude.{◌≡◌, ◌+◌, ◌≤◌, length, slice_set};
+ghost use Rattle.summed.specs.Summed.{answer_onto, as_row, between, characters, dropped, ended_onto, failed, fewer, joined, more, recorded_onto, tallies, token_onto, tokens_onto};
 
-use recorded::{get, rest};
+use recorded::{front, get, rest};
 
 // The numbers of a row.
 const IN_TOKENS: usize = 54;
@@ -51,7 +51,7 @@ fn more(row: &mut [u64], i: usize, n: u64)
     ensures { row.new ≡ more i n row.old }
 {
     if i < row.len() {
-        row[i] = std::num::wrapping_add_u64(row[i], n);
+        row[i] = row[i].wrapping_add(n);
     }
 }
 
@@ -60,7 +60,7 @@ fn fewer(row: &mut [u64], i: usize, n: u64)
     ensures { row.new ≡ fewer i n row.old }
 {
     if i < row.len() {
-        row[i] = std::num::wrapping_sub_u64(row[i], n);
+        row[i] = row[i].wrapping_sub(n);
     }
 }
 
@@ -73,54 +73,31 @@ fn clear(row: &mut [u64], i: usize)
     }
 }
 
-// A number less another; 0 where that is greater.
-fn less(a: u64, b: u64) -> u64
-    ensures { result ≡ a - b }
+// The characters that start in bytes: those that are not 128 to 191.
+fn characters(text: &[u8]) -> u64
+    ensures { (result ≡ characters text.now) × (result ≤ length text.now) }
 {
-    if a < b {
-        return 0;
-    }
-    a - b
+    text.iter().filter(|b| (**b < 128) | (191 < **b)).count() as u64
 }
 
 // The characters that start from a place on and before another.
 fn between(text: &[u8], from: usize, to: usize) -> u64
     ensures { (result ≡ between text.now from to) × (result ≤ length text.now) }
 {
-    let mut n: u64 = 0;
-    let mut i = from;
-    while i < to {
-        if text.len() <= i {
-            return n;
-        }
-        let b = text[i];
-        if (128 <= b) & (b <= 191) {
-            i += 1;
-        } else {
-            n += 1;
-            i += 1;
-        }
-    }
-    n
+    characters(front(rest(text, from), to.saturating_sub(from)))
 }
 
 // What is dropped after a token that ends at a place.
 fn dropped(text: &[u8], kind: u64, end: usize) -> u64
     ensures { (result ≡ dropped text.now kind end) × (result ≤ 1) }
 {
-    if (kind == ATTRIBUTE) & (end < text.len()) {
-        return 1;
-    }
-    0
+    u64::from((kind == ATTRIBUTE) & (end < text.len()))
 }
 
 fn failed(kind: u64) -> u64
     ensures { result ≡ failed kind }
 {
-    if kind == HASH {
-        return 1;
-    }
-    0
+    u64::from(kind == HASH)
 }
 
 // A token from a place to another.
@@ -140,16 +117,12 @@ fn token_onto(text: &[u8], kind: u64, from: u64, to: u64, row: &mut [u64])
 fn tokens_onto(text: &[u8], shift: u64, tokens: &[u64], row: &mut [u64])
     ensures { row.new ≡ tokens_onto text.now shift tokens.now row.old }
 {
-    let mut at: usize = 0;
-    while 5 <= tokens.len() - at {
-        token_onto(
-            text,
-            tokens[at],
-            less(tokens[at + 1], shift),
-            less(tokens[at + 2], shift),
-            row,
-        );
-        at += 5;
+    let mut left = tokens;
+    while let [kind, start, end, _, _, others @ ..] = left {
+        let from = start.saturating_sub(shift);
+        let to = end.saturating_sub(shift);
+        token_onto(text, *kind, from, to, row);
+        left = others;
     }
 }
 
@@ -163,7 +136,7 @@ fn ended_onto(text: &[u8], recorded: &[u64], row: &mut [u64])
         rest(recorded, TOKENS_AT),
         row,
     );
-    more(row, IN_GAPS, between(text, 0, text.len()));
+    more(row, IN_GAPS, characters(text));
     more(row, ADVANCES_IN, get(recorded, ADVANCES_AT));
 }
 

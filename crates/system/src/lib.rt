@@ -1,5 +1,7 @@
-// What the programs ask of the system: their arguments, files by name, all bytes up to an end, and the words for a fault.
+// What the programs ask of the system: their arguments, files by name, all bytes up to an end; and in `telling` the words for a fault, and that what was said is written.
 #![tactic(auto)]
+
+mod telling;
 
 ghost use Rattle.std.specs.Prelude.{ℕ, false, ◌≡◌, ◌≢◌, ◌<◌, ◌≤◌, length, take, All, IfOk, IfErr, OnErr, OnOk};
 ghost use Rattle.std.specs.Io.{ReadsAtMost, StartsWith};
@@ -10,6 +12,7 @@ use std::env::FillError;
 use std::fs::File;
 use std::io::{Error, ErrorKind, Read, Result, Write};
 use std::rt::{Env, Files};
+pub use telling::{Stopped, fault, has_options, write_came, write_err, write_out, wrong};
 
 // How often a read that a signal interrupted is tried again.
 const TRIES: u32 = 1000000;
@@ -43,6 +46,7 @@ pub fn read_all<R: Read>(from: &mut R, buf: &mut [u8]) -> Result<usize>
     ensures err { OnErr result ((n : ℕ) × (n ≤ length buf.new) × Consumes (R.remaining from.old) (R.remaining from.new) (take n buf.new)) }
 {
     let mut n: usize = 0;
+    // how far a read comes the reader says: there is nothing to iterate over
     while n < buf.len() {
         let k = read_once(from, &mut buf[n..])?;
         if k == 0 {
@@ -59,6 +63,7 @@ pub fn write_whole<W: Write>(to: &mut W, bytes: &[u8]) -> Result<()>
     ensures err { OnErr result ((n : ℕ) × (n ≤ length bytes.now) × Appends (W.contents to.old) (W.contents to.new) (take n bytes.now)) }
 {
     let mut rest = bytes;
+    // std's write_all tries an interrupted write again
     while !rest.is_empty() {
         let n = to.write(rest)?;
         if n == 0 {
@@ -114,21 +119,21 @@ const TOO_LONG: i32 = 36;
 pub fn argument(rt: &impl Env, i: usize, buf: &mut [u8]) -> Result<usize>
     ensures { ReadsAtMost result buf.new }
 {
-    match rt.arg(i, buf) {
-        Ok(n) => Ok(n),
-        Err(FillError::TooLong) => Err(Error::from_raw_os_error(TOO_LONG)),
-        Err(FillError::NotPresent) => Err(Error::from_raw_os_error(NO_ARGUMENT)),
-    }
+    rt.arg(i, buf).map_err(fault_of)
+}
+
+fn fault_of(why: FillError) -> Error {
+    Error::from_raw_os_error(match why {
+        FillError::TooLong => TOO_LONG,
+        FillError::NotPresent => NO_ARGUMENT,
+    })
 }
 
 // How many arguments there are, with the program's own name.
 pub fn argument_count(rt: &impl Env) -> usize {
-    for i in 0..usize::MAX {
-        if let Err(FillError::NotPresent) = rt.arg(i, &mut []) {
-            return i;
-        }
-    }
-    usize::MAX
+    (0..usize::MAX)
+        .find(|i| matches!(rt.arg(*i, &mut []), Err(FillError::NotPresent)))
+        .unwrap_or(usize::MAX)
 }
 
 // Opens the file that argument i names. A path of std is UTF-8. For a name that is not, whoever calls the program lends a link with the argument's
@@ -153,6 +158,16 @@ fn open_link<R: Files + Env>(rt: &R, i: usize) -> Result<R::File> {
         Ok(path) => File::open(rt, path),
         Err(_) => Err(Error::from(ErrorKind::InvalidFilename)),
     }
+}
+
+// Reads the file that argument i names, up to the buffer's end, and answers how many bytes came; `-` is standard input.
+pub fn read_named(rt: &HostRuntime, i: usize, name: &[u8], buf: &mut [u8]) -> Result<usize>
+    ensures { ReadsAtMost result buf.new }
+{
+    if name == b"-".as_slice() {
+        return read_all(&mut rt.stdin(), buf);
+    }
+    read_all(&mut open_argument(rt, i, name)?, buf)
 }
 
 #[cfg(test)]

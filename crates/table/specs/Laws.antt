@@ -1,7 +1,7 @@
 -- What the code cites: pieces that are put one after another, and the columns that a name leaves.
 use Prim.Native.Nat.{ℕ, zero, suc, ◌+◌, ◌-◌, ◌*◌, ◌≤◌, ◌<◌}
 use native.Mathlib.Omega.{arith}
-use Rattle.std.proofs.Common.{eq-eqb, le-leb, leb-true, ne_eqb, append-nil, sym, ◌∙◌, length-drop, drop_at, drop-cons, get_or-take, length-take-le, take-add, take-take}
+use Rattle.std.proofs.Common.{eq-eqb, le-leb, leb-true, ne_eqb, append-nil, sym, ◌∙◌, length-drop, drop_at, drop-cons, get_or-take, length-take-le, take-add, take-take, Option, Some, None}
 use Rattle.std.proofs.lemmas.Bool.{lt-leb}
 use Rattle.std.specs.Prelude.{Bool, true, false, ◌&&◌, cond, List, [], ◌∷◌, ◌++◌, ◌≡◌, refl, leb, ltb, drop, get_or, replicate, take}
 use Rattle.std.proofs.Math.Path.{ap}
@@ -9,73 +9,71 @@ use Rattle.std.proofs.Math.ListN.{length, length-append}
 use Rattle.std.proofs.Math.Seq.{drop-length}
 use Rattle.text.specs.Bytes.{join}
 use Rattle.text.specs.Lay.{Laid, lay, lay-append, lay_all}
-use Rattle.text.specs.declared.Came.{Came}
-use Rattle.text.specs.declared.Came.TheVariants.{Full, To}
 use Rattle.sheet.specs.Adds.{sheet_size, work_limit}
 use Rattle.sheet.specs.Sheet.{within}
 use Rattle.table.specs.Table.{Put, all_occur, at_right, each, is_shown, line, name_columns, number_columns, shown_lines, spaces, table_pieces, total}
 
 -- a piece at the front of those that are put
-abbrev pub PutOne : List ℕ → Came → List ℕ → Came → List ℕ → Type 0
+abbrev pub PutOne : List ℕ → Option ℕ → List ℕ → Option ℕ → List ℕ → Type 0
 PutOne d from l r held = (r ≡ (lay d from l).to) × (held ≡ (lay d from l).held)
 
-pub put_one : (d : List ℕ) (from : Came) (l : List ℕ) (r : Came) (x : List ℕ) → PutOne d from l r x → Put d from (l ∷ []) r x
+pub put_one : (d : List ℕ) (from : Option ℕ) (l : List ℕ) (r : Option ℕ) (x : List ℕ) → PutOne d from l r x → Put d from (l ∷ []) r x
 unfolding lay_all
 put_one d from l r x h = h
 
-pub put_first : (d : List ℕ) (from : Came) (l : List ℕ) (ls : List (List ℕ)) (c : Came) (e : List ℕ) (r : Came) (x : List ℕ) → PutOne d from l c e → Put e c ls r x
+pub put_first : (d : List ℕ) (from : Option ℕ) (l : List ℕ) (ls : List (List ℕ)) (c : Option ℕ) (e : List ℕ) (r : Option ℕ) (x : List ℕ) → PutOne d from l c e → Put e c ls r x
     → Put d from (l ∷ ls) r x
 unfolding lay_all
 put_first d from l ls c e r x h k = rw (h.0, h.1) at k
 
 -- pieces after pieces
-pub put-more : (d : List ℕ) (from : Came) (ls ms : List (List ℕ)) (c : Came) (e : List ℕ) (r : Came) (x : List ℕ) → Put d from ls c e → Put e c ms r x
+pub put-more : (d : List ℕ) (from : Option ℕ) (ls ms : List (List ℕ)) (c : Option ℕ) (e : List ℕ) (r : Option ℕ) (x : List ℕ) → Put d from ls c e → Put e c ms r x
     → Put d from (ls ++ ms) r x
 unfolding lay_all
 put-more d from [] ms c e r x h k = rw (h.0, h.1) at k
 put-more d from (l ∷ ls) ms c e r x h k = put-more (lay d from l).held (lay d from l).to ls ms c e r x h k
 
-pub put-none : (d : List ℕ) (from : Came) → Put d from [] from d
+pub put-none : (d : List ℕ) (from : Option ℕ) → Put d from [] from d
 unfolding lay_all
 put-none d from = (refl, refl)
 
 -- ---- the columns that a name leaves
-unfoldable pub reach : Came → ℕ
-reach Full = 0
-reach (To n) = n
+unfoldable pub reach : Option ℕ → ℕ
+reach None = 0
+reach (Some n) = n
 
 -- n bytes were put between two places, if they fit
-abbrev CameBy : Came → Came → ℕ → Type 0
-CameBy s Full n = Unit {0}
-CameBy Full (To b) n = ⊥
-CameBy (To a) (To b) n = b ≡ a + n
+abbrev CameBy : Option ℕ → Option ℕ → ℕ → Type 0
+CameBy s None n = Unit {0}
+CameBy None (Some b) n = ⊥
+CameBy (Some a) (Some b) n = b ≡ a + n
 
-abbrev laid : Came → List ℕ → Laid
+abbrev laid : Option ℕ → List ℕ → Laid
 laid c x = record { to = c; held = x }
 
-by_lay : (d : List ℕ) (s : Came) (l : List ℕ) → CameBy s (lay d s l).to (length l)
+by_lay : (d : List ℕ) (s : Option ℕ) (l : List ℕ) → CameBy s (lay d s l).to (length l)
 unfolding lay
-by_lay d Full l = tt
-by_lay d (To a) l = go (ltb (length d) (a + length l)) (take a d ++ l ++ drop (a + length l) d)
+by_lay d None l = tt
+by_lay d (Some a) l = go (ltb (length d) (a + length l)) (take a d ++ l ++ drop (a + length l) d)
   where
-    go : (t : Bool) (y : List ℕ) → CameBy (To a) (cond t (laid Full d) (laid (To (a + length l)) y)).to (length l)
+    go : (t : Bool) (y : List ℕ) → CameBy (Some a) (cond t (laid None d) (laid (Some (a + length l)) y)).to (length l)
     go true y = tt
     go false y = refl
 
-by_both : (s c f : Came) (m n : ℕ) → CameBy s c m → CameBy c f n → CameBy s f (m + n)
-by_both s c Full m n h k = tt
-by_both s Full (To b) m n h k = absurd k
-by_both Full (To a) (To b) m n h k = absurd h
-by_both (To o) (To a) (To b) m n h k = omega (arith, h, k)
+by_both : (s c f : Option ℕ) (m n : ℕ) → CameBy s c m → CameBy c f n → CameBy s f (m + n)
+by_both s c None m n h k = tt
+by_both s None (Some b) m n h k = absurd k
+by_both None (Some a) (Some b) m n h k = absurd h
+by_both (Some o) (Some a) (Some b) m n h k = omega (arith, h, k)
 
-pad_named : (s c : Came) (n : ℕ) (ps : List (List ℕ)) (e : List ℕ) (r : Came) (x : List ℕ) → CameBy s c n
+pad_named : (s c : Option ℕ) (n : ℕ) (ps : List (List ℕ)) (e : List ℕ) (r : Option ℕ) (x : List ℕ) → CameBy s c n
     → Put e c (spaces (name_columns - (reach c - reach s)) ∷ ps) r x → Put e c (spaces (name_columns - n) ∷ ps) r x
 unfolding lay lay_all reach
-pad_named s Full n ps e r x h k = k
-pad_named Full (To b) n ps e r x h k = absurd h
-pad_named (To a) (To b) n ps e r x h k = let q : b - a ≡ n = omega (arith, h) in rw q at k
+pad_named s None n ps e r x h k = k
+pad_named None (Some b) n ps e r x h k = absurd h
+pad_named (Some a) (Some b) n ps e r x h k = let q : b - a ≡ n = omega (arith, h) in rw q at k
 
-module _ (d : List ℕ) (s : Came) (n : ℕ) (c : Came) (e : List ℕ) (r : Came) (x : List ℕ) where
+module _ (d : List ℕ) (s : Option ℕ) (n : ℕ) (c : Option ℕ) (e : List ℕ) (r : Option ℕ) (x : List ℕ) where
   pub line-one : (name : List ℕ) → PutOne d s name c e → Put e c (spaces (name_columns - (reach c - reach s)) ∷ at_right number_columns n) r x
       → Put d s (line (name ∷ []) n) r x
   unfolding join line
@@ -83,7 +81,7 @@ module _ (d : List ℕ) (s : Came) (n : ℕ) (c : Came) (e : List ℕ) (r : Came
       let i = rw (← h.0) at (by_lay d s name) in
       put_first d s name _ c e r x h (rw (append-nil name) (pad_named s c (length name) (at_right number_columns n) e r x i p))
 
-  pub line-two : (indent name : List ℕ) (f : Came) (g : List ℕ) → PutOne d s indent f g → PutOne g f name c e
+  pub line-two : (indent name : List ℕ) (f : Option ℕ) (g : List ℕ) → PutOne d s indent f g → PutOne g f name c e
       → Put e c (spaces (name_columns - (reach c - reach s)) ∷ at_right number_columns n) r x → Put d s (line (indent ∷ name ∷ []) n) r x
   unfolding join line
   line-two indent name f g h k p =
@@ -192,14 +190,14 @@ unfolding total
 summed_all l sum i s h = let t = rw (end l i s.0 h) at s.2 in omega (arith, t)
 
 -- ---- what is said of each number: i of them are done
-abbrev pub Going : (ℕ → ℕ → List (List ℕ)) → ℕ → List ℕ → List ℕ → Came → List ℕ → Came → ℕ → Type 0
+abbrev pub Going : (ℕ → ℕ → List (List ℕ)) → ℕ → List ℕ → List ℕ → Option ℕ → List ℕ → Option ℕ → ℕ → Type 0
 Going f k l d from e c i = (i ≤ length l) × (lay_all e c (each f (k + i) (drop i l)) ≡ lay_all d from (each f k l))
 
-module _ (f : ℕ → ℕ → List (List ℕ)) (k : ℕ) (l d : List ℕ) (from : Came) where
+module _ (f : ℕ → ℕ → List (List ℕ)) (k : ℕ) (l d : List ℕ) (from : Option ℕ) where
   pub going-first : Going f k l d from d from 0
   going-first = let e : k + 0 ≡ k = omega arith in (omega arith, ap (λ (j : ℕ). lay_all d from (each f j l)) e)
 
-  pub going_on : (e : List ℕ) (c : Came) (i j : ℕ) (x : List ℕ) (r : Came) → Going f k l d from e c i → i < length l → Put e c (f j (get_or l i 0)) r x → j ≡ k + i
+  pub going_on : (e : List ℕ) (c : Option ℕ) (i j : ℕ) (x : List ℕ) (r : Option ℕ) → Going f k l d from e c i → i < length l → Put e c (f j (get_or l i 0)) r x → j ≡ k + i
       → Going f k l d from x r (i + 1)
   unfolding each
   going_on e c i j x r g h p q =
@@ -207,7 +205,7 @@ module _ (f : ℕ → ℕ → List (List ℕ)) (k : ℕ) (l d : List ℕ) (from 
       let t = rw (next l i h, lay-append e c (f (k + i) (get_or l i 0)) (each f (suc (k + i)) (drop (i + 1) l)), s, ← q) at g.1 in
       (omega (arith, h), rw (p.0, p.1) t)
 
-  pub going_all : (e : List ℕ) (c : Came) (i : ℕ) → Going f k l d from e c i → length l ≤ i → Put d from (each f k l) c e
+  pub going_all : (e : List ℕ) (c : Option ℕ) (i : ℕ) → Going f k l d from e c i → length l ≤ i → Put d from (each f k l) c e
   unfolding each lay_all
   going_all e c i g h =
       let t = rw (end l i g.0 h) at g.1 in

@@ -1,17 +1,16 @@
 -- THE TABLE that the command `sheet` prints, as pieces that are put one after another. The request for it: "a table that a planner can read, kinds with their counts and
 -- shares (kinds that never occur left out, said at the foot), the four character totals with their shares, advances, failed attempts, errors by name, texts
 -- taken and refused".
-use Rattle.std.specs.Prelude.{ℕ, suc, ◌+◌, ◌-◌, ◌*◌, ◌/◌, ◌%◌, Bool, true, ◌&&◌, cond, not, List, [], ◌∷◌, ◌++◌, ◌≡◌, eqb, leb, drop, get_or, length, replicate, take}
+use Rattle.std.specs.Prelude.{ℕ, suc, ◌+◌, ◌-◌, ◌*◌, ◌/◌, ◌%◌, Bool, true, ◌&&◌, cond, not, List, [], ◌∷◌, ◌++◌, ◌≡◌, eqb, leb, drop, get_or, length, replicate, take, Option}
 use Rattle.text.specs.Bytes.{bytes, join}
 use Rattle.text.specs.Digits.{digits, width}
 use Rattle.text.specs.Lay.{lay_all}
 use Rattle.text.specs.Names.{code_name, kind_name}
-use Rattle.text.specs.declared.Came.{Came}
 use Rattle.sheet.specs.Adds.{advances_in, dropped_after, failed_in, in_comments, in_tokens, in_whitespace, sheet_size, tallies, texts_taken, work_limit}
 use Rattle.sheet.specs.Sheet.{within}
 
 -- what is put into a buffer d, where bytes came to before: pieces, as many whole ones as fit; r is how far they came, and held what the buffer holds
-abbrev pub Put : List ℕ → Came → List (List ℕ) → Came → List ℕ → Type 0
+abbrev pub Put : List ℕ → Option ℕ → List (List ℕ) → Option ℕ → List ℕ → Type 0
 Put d from ps r held = (r ≡ (lay_all d from ps).to) × (held ≡ (lay_all d from ps).held)
 
 unfoldable pub spaces : ℕ → List ℕ

@@ -1,6 +1,6 @@
 // What the lines of a file say of a property, held against the function's answers, code point by code point.
 ghost use Rattle.std.specs.Prelude.{◌≡◌, ◌≤◌, ◌<◌};
-ghost use Rattle.tally.specs.Answers.{asked, besides, other, number_of, one};
+ghost use Rattle.tally.specs.Answers.{asked, besides};
 ghost use Rattle.tally.specs.Tallies.{agrees_of, end, fresh_tally, noted, spoilt_of, step_of, tally_of, up_to, with_line, with_range};
 ghost use Rattle.tally.specs.Laws.{Sane};
 
@@ -11,7 +11,7 @@ use utf8::signs::UNDERSCORE;
 pub const END: u32 = 0x110000;
 
 // What is known of a property below the code point `next`: how many the file names, how many the function does, the first difference (or END),
-// and the first line that cannot be read (or 0).
+// and the first line that cannot be read (or 0). No options: `agrees_of`, `no_difference` and the theorems of specs/Examples read these numbers.
 #[derive(Clone, Copy)]
 pub struct Tally {
     pub next: u32,
@@ -37,28 +37,9 @@ fn is_besides(p: Property, c: u32) -> bool
     ensures { result ≡ besides p c }
 {
     match p {
-        Property::Start => c == UNDERSCORE,
-        Property::Continue => c == UNDERSCORE,
+        Property::Start | Property::Continue => c == UNDERSCORE,
         Property::White => false,
     }
-}
-
-fn is_other(answer: bool, want: bool) -> bool
-    ensures { result ≡ other answer want }
-{
-    if answer {
-        return !want;
-    }
-    want
-}
-
-fn one_if(yes: bool) -> u32
-    ensures { result ≡ one yes }
-{
-    if yes {
-        return 1;
-    }
-    0
 }
 
 // The first difference, if c differs or not.
@@ -79,13 +60,13 @@ fn step(t: Tally, p: Property, told: bool) -> Tally
     let c = t.next;
     let answer = asks(p, c);
     let want = told | is_besides(p, c);
-    let first = note(t.first, c, is_other(answer, want));
+    let first = note(t.first, c, answer != want);
     Tally {
         next: c + 1,
-        told: t.told + one_if(told),
-        yes: t.yes + one_if(answer),
-        first: first,
-        damaged: t.damaged,
+        told: t.told + u32::from(told),
+        yes: t.yes + u32::from(answer),
+        first,
+        ..t
     }
 }
 
@@ -95,7 +76,7 @@ fn further(t: Tally, p: Property, to: u32, told: bool) -> Tally
     ensures { result ≡ up_to p told to t }
 {
     let mut u = t;
-    while u.next < to {
+    for _ in t.next..to {
         u = step(u, p, told);
     }
     u
@@ -108,23 +89,7 @@ fn spoilt(t: Tally, n: usize) -> Tally
     if t.damaged != 0 {
         return t;
     }
-    Tally {
-        next: t.next,
-        told: t.told,
-        yes: t.yes,
-        first: t.first,
-        damaged: n,
-    }
-}
-
-fn number_of(p: Property) -> u8
-    ensures { result ≡ number_of p }
-{
-    match p {
-        Property::Start => 0,
-        Property::Continue => 1,
-        Property::White => 2,
-    }
+    Tally { damaged: n, ..t }
 }
 
 // The tally with line n, which names the code points from `first` to `last`. A property's lines ascend.
@@ -132,19 +97,13 @@ fn with_range(t: Tally, p: Property, first: u32, last: u32, n: usize) -> Tally
     requires { Sane t }
     ensures { result ≡ with_range p n first last t }
 {
-    if first < t.next {
-        return spoilt(t, n);
-    }
-    if last < first {
-        return spoilt(t, n);
-    }
-    if END <= last {
+    if first < t.next || last < first || END <= last {
         return spoilt(t, n);
     }
     further(further(t, p, first, false), p, last + 1, true)
 }
 
-// The tally with line n.
+// The tally with line n. Another property's line says nothing.
 fn with_line(t: Tally, p: Property, l: Line, n: usize) -> Tally
     requires { Sane t }
     ensures { result ≡ with_line p n l t }
@@ -157,10 +116,11 @@ fn with_line(t: Tally, p: Property, l: Line, n: usize) -> Tally
             last,
             property,
         } => {
-            if number_of(property) != number_of(p) {
-                return t;
+            if property == p {
+                with_range(t, p, first, last, n)
+            } else {
+                t
             }
-            with_range(t, p, first, last, n)
         }
     }
 }
@@ -185,11 +145,11 @@ pub fn tally_of(s: &[u8], p: Property) -> Tally
     let mut t = fresh();
     let mut at = 0;
     let mut n: usize = 0;
+    // no `for`: where the next line starts the reader tells
     while at < s.len() {
         n += 1;
         let read = line_at(s, at);
-        let line = read.line;
-        t = with_line(t, p, line, n);
+        t = with_line(t, p, read.line, n);
         at = read.next;
     }
     further(t, p, END, false)

@@ -1,4 +1,4 @@
--- The code's tables of names: all names one after another, and where each ends. Each is the name that the definition gives.
+-- How long the names are, and which numbers have none; and lists of names that stand one after another, with where each ends: each is the name that the definition gives.
 use Rattle.std.specs.Prelude.{ℕ, zero, suc, ◌+◌, ◌-◌, ◌≤◌, ◌<◌, Bool, true, false, ◌&&◌, List, [], ◌∷◌, ◌≡◌, eqb, leb, drop, get_or, length, take}
 use Rattle.std.proofs.Common.{arith, ap, subst, ◌∙◌, length-drop, length-take-le}
 use Rattle.std.proofs.Math.Path.{refl}
@@ -101,7 +101,7 @@ pub code-none : (n : ℕ) → 30 ≤ n → code_name n ≡ []
 unfolding bytes code_name code_names
 code-none n h = get_or-eq_default code_names [] h
 
--- ---- a table in the code: its names one after another, and where each ends
+-- ---- the names one after another, and where each ends
 unfoldable pub ends_from : ℕ → List (List ℕ) → List ℕ
 ends_from at [] = at ∷ []
 ends_from at (k ∷ ks) = at ∷ ends_from (at + length k) ks

@@ -12,7 +12,7 @@ use Rattle.text.specs.Digits.{digits}
 use Rattle.text.specs.NameLaws.{Named, code-short, ends_from, fits-at, kind_short, named, named-at, right, short, short-at}
 use Rattle.text.specs.Names.{code_name, kind_name, same}
 use Rattle.text.specs.declared.Piece.{Piece}
-use Rattle.text.specs.declared.Piece.TheVariants.{Code, Kind, Nothing, Number, Phrase, Spaced}
+use Rattle.text.specs.declared.Piece.TheVariants.{Code, Kind, Number, Phrase, Spaced}
 
 unfoldable pub phrases : List (List ℕ)
 phrases =
@@ -30,7 +30,6 @@ piece_bytes (Number n) = digits n
 piece_bytes (Spaced n) = spaced n
 piece_bytes (Kind n) = kind_name n
 piece_bytes (Code n) = code_name n
-piece_bytes Nothing = []
 
 unfoldable pub all_bytes : List Piece → List ℕ
 all_bytes [] = []
@@ -57,9 +56,8 @@ piece_short (Number n) = let h = at-most_twenty n in omega (arith, h)
 piece_short (Spaced n) = spaced-short n
 piece_short (Kind n) = kind_short n
 piece_short (Code n) = code-short n
-piece_short Nothing = omega arith
 
--- ---- the code's table of phrases
+-- ---- the phrases one after another, and where each ends
 abbrev phrase_text : List ℕ
 phrase_text = join phrases
 
@@ -96,14 +94,14 @@ pub composed_first : (d : List ℕ) (ps : List Piece) → length d ≡ 256 → C
 unfolding all_bytes
 composed_first d ps h = record { held = refl; count = refl; wide = h; few = omega arith; begun = omega arith }
 
-pub composed_on : (d : List ℕ) (ps : List Piece) (b : List ℕ) (n i : ℕ) (b' : List ℕ) (n' : ℕ) (z : Piece) → Composed d ps b n i → i < 8 → length ps ≡ 8
+pub composed_on : (d : List ℕ) (ps : List Piece) (b : List ℕ) (n i : ℕ) (b' : List ℕ) (n' : ℕ) (z : Piece) → Composed d ps b n i → i < length ps → length ps ≤ 8
     → n' ≡ n + length (piece_bytes (get_or ps i z)) → b' ≡ sets b n (piece_bytes (get_or ps i z)) → Composed d ps b' n' (i + 1)
 unfolding all_bytes
 composed_on d ps b n i b' n' z w h l e f =
     let q : i + 1 ≡ suc i = omega arith in
     let p = get_or ps i z in
     let a : all_bytes (take (i + 1) ps) ≡ all_bytes (take i ps) ++ piece_bytes p =
-    ap (λ (k : ℕ). all_bytes (take k ps)) q ∙ ap all_bytes (take-suc ps i z (omega (arith, h, l))) ∙ all_append (take i ps) (p ∷ []) ∙ ap (λ (x : List ℕ). all_bytes (take i ps) ++ x) (append-nil (piece_bytes p)) in
+    ap (λ (k : ℕ). all_bytes (take k ps)) q ∙ ap all_bytes (take-suc ps i z h) ∙ all_append (take i ps) (p ∷ []) ∙ ap (λ (x : List ℕ). all_bytes (take i ps) ++ x) (append-nil (piece_bytes p)) in
     let s = piece_short p in
     let m = length-append (all_bytes (take i ps)) (piece_bytes p) in
     let v = sets_append (all_bytes (take i ps)) (piece_bytes p) d 0 in
@@ -116,9 +114,9 @@ composed_on d ps b n i b' n' z w h l e f =
       begun = omega arith;
     }
 
-pub composed_all : (d : List ℕ) (ps : List Piece) (b : List ℕ) (n i : ℕ) → Composed d ps b n i → length d ≡ 256 → length ps ≡ 8 → 8 ≤ i → take n b ≡ all_bytes ps
+pub composed_all : (d : List ℕ) (ps : List Piece) (b : List ℕ) (n i : ℕ) → Composed d ps b n i → length d ≡ 256 → length ps ≤ 8 → length ps ≤ i → take n b ≡ all_bytes ps
 composed_all d ps b n i w k l h =
-    let t = take_all i ps (omega (arith, l, h)) in
+    let t = take_all i ps h in
     let c : n ≡ length (all_bytes ps) = w.count ∙ ap (λ (x : List Piece). length (all_bytes x)) t in
     let f : b ≡ sets d 0 (all_bytes ps) = w.held ∙ ap (λ (x : List Piece). sets d 0 (all_bytes x)) t in
     let e = sets-eq (all_bytes ps) d 0 (omega (arith, c, k, w.few, w.begun)) in

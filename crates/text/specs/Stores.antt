@@ -1,5 +1,5 @@
 -- Stores into a buffer, backwards, and what they come to.
-use Rattle.std.specs.Prelude.{ℕ, suc, ◌+◌, ◌-◌, ◌/◌, ◌%◌, ◌≤◌, ◌<◌, List, [], ◌∷◌, ◌++◌, ◌≡◌, refl, get_or, length, set, take}
+use Rattle.std.specs.Prelude.{ℕ, suc, ◌+◌, ◌-◌, ◌/◌, ◌%◌, ◌≤◌, ◌<◌, List, [], ◌∷◌, ◌≡◌, refl, get_or, length, set, take, Some, None}
 use Rattle.std.proofs.Common.{arith, sym, ap, ◌∙◌, length-take-le, take_all, take-suc, le-ltb, lt-ltb}
 use Rattle.std.proofs.lemmas.List.{set_comm}
 use Rattle.std.proofs.lemmas.List.Edits.{sets, sets-eq}
@@ -7,7 +7,6 @@ use Rattle.record.specs.Stores.{sets_append}
 use Rattle.text.specs.DigitLaws.{length_digits}
 use Rattle.text.specs.Digits.{digits, digits_then, width}
 use Rattle.text.specs.Lay.{lay}
-use Rattle.text.specs.declared.Came.TheVariants.{Full, To}
 
 module _ {A : Type 0} where
   -- a store before others, made after them
@@ -34,11 +33,11 @@ pub stored_all : (d : List ℕ) (at i : ℕ) (w out : List ℕ) → out ≡ sets
 stored_all d at i w out e h l = (omega (arith, h, l), e ∙ ap (sets d at) (take_all i w l))
 
 -- ---- bytes at a place
-pub lay_full : (d l : List ℕ) (at : ℕ) → length d < at + length l → (Full ≡ (lay d (To at) l).to) × (d ≡ (lay d (To at) l).held)
+pub lay_full : (d l : List ℕ) (at : ℕ) → length d < at + length l → (None ≡ (lay d (Some at) l).to) × (d ≡ (lay d (Some at) l).held)
 unfolding lay
 lay_full d l at h = let e = lt-ltb (length d) (at + length l) h in (rw e, rw e)
 
-pub lay-fit : (d l : List ℕ) (at : ℕ) → at + length l ≤ length d → (To (at + length l) ≡ (lay d (To at) l).to) × (sets d at l ≡ (lay d (To at) l).held)
+pub lay-fit : (d l : List ℕ) (at : ℕ) → at + length l ≤ length d → (Some (at + length l) ≡ (lay d (Some at) l).to) × (sets d at l ≡ (lay d (Some at) l).held)
 unfolding lay
 lay-fit d l at h = let e = le-ltb (length d) (at + length l) h in (rw e, rw e (sets-eq l d at h))
 
@@ -79,6 +78,6 @@ writing_last d at n out i m w h =
     let r = rw e at w.rest in
     w.held ∙ ap (λ (k : ℕ). sets d k w.acc) f ∙ ap (sets d at) r
 
-pub lay_shut : (d l : List ℕ) → (Full ≡ (lay d Full l).to) × (d ≡ (lay d Full l).held)
+pub lay_shut : (d l : List ℕ) → (None ≡ (lay d None l).to) × (d ≡ (lay d None l).held)
 unfolding lay
 lay_shut d l = (refl, refl)

@@ -1,5 +1,5 @@
 -- Nothing is lost between two calls: the state's numbers are the tokenizer's, both ways, and a run is the call from four zeros.
-use Rattle.std.specs.Prelude.{ℕ, zero, suc, ◌+◌, ◌-◌, ◌≤◌, ◌<◌, Bool, cond, List, [], ◌∷◌, ◌≡◌, eqb, get_or, length}
+use Rattle.std.specs.Prelude.{ℕ, zero, suc, ◌+◌, ◌-◌, ◌≤◌, ◌<◌, Bool, cond, List, [], ◌∷◌, ◌≡◌, eqb, get_or, length, Option, Some, None, Result, Ok, Err}
 use Rattle.std.proofs.Common.{arith, sym, ap, ◌∙◌}
 use Rattle.std.proofs.Math.Bool.{true, false}
 use Rattle.std.proofs.Math.Path.{refl}
@@ -10,8 +10,6 @@ use Rattle.utf8.specs.Utf8.{boundary}
 use Rattle.record.specs.Checks.{checks}
 use Rattle.record.specs.Numbers.{code_number, code_of, codes}
 use Rattle.record.specs.Records.{over, refusal}
-use Rattle.record.specs.declared.Checked.{Checked}
-use Rattle.record.specs.declared.Checked.TheVariants.{Passed, Refused as Stopped}
 use Rattle.record.specs.declared.Code.{Code}
 use Rattle.record.specs.declared.Code.TheVariants.{UnrecognizedToken, UnterminatedEscape, UnterminatedAsciiEscape, UnrecognizedEscape, UnterminatedStringLiteral, UnterminatedCharacterLiteral, UnterminatedAttribute, UnterminatedCode, ExpectedStringLiteral, UnterminatedBlockComment, NotUtf8, TooLong, ShiftTooLarge, NoRoom, WorkLimit, TrailingBackslash, BadMark, UnknownVersion, BadLength, BadRecord, SheetFull, HalfSymbol, StrayCharacter, UnknownReading, TooDeep, TextMismatch, ChangeListFull, BadEdit, StaleRecords}
 use Rattle.record.specs.declared.Reading.{Reading}
@@ -26,10 +24,6 @@ use Rattle.run.specs.Checked.{ran_of, ran_with, run_if, whole_run_with}
 use Rattle.numbers.specs.Leaves.{tell}
 use Rattle.teykonasir.specs.Calls.{resume_call, resumed, room_in, run_call}
 use Rattle.teykonasir.specs.State.{code_known, done_numbers, refused_at, state_at, state_from, state_numbers, state_of}
-use Rattle.teykonasir.specs.declared.KnownCode.{KnownCode}
-use Rattle.teykonasir.specs.declared.KnownCode.TheVariants.{Code as ACode, Nothing as NoCode}
-use Rattle.teykonasir.specs.declared.KnownState.{KnownState}
-use Rattle.teykonasir.specs.declared.KnownState.TheVariants.{State as AState, Nothing as NoState}
 
 -- each refusal's number stands for that refusal
 refused_again : (at count place : ℕ) (c : Code) → state_from at count (code_number c) place ≡ state_at at count (Refused (refusal c place))
@@ -72,8 +66,8 @@ again at count (Refused r) old = refused_again at count r.place r.code
 
 -- THE THEOREM. A tokenizer that is stored over any numbers is the one that is read again: nothing is lost. Of one in the old reading: the reading is not
 -- among the numbers.
-pub state_again : (t : Tokenizer) → t.reading ≡ Old → (old : List ℕ) → state_of (over (state_numbers t) old) ≡ AState t
-state_again t o old = again t.at t.count t.done old ∙ ap (λ (rd : Reading). AState (record { at = t.at; count = t.count; done = t.done; reading = rd })) (sym o)
+pub state_again : (t : Tokenizer) → t.reading ≡ Old → (old : List ℕ) → state_of (over (state_numbers t) old) ≡ Some t
+state_again t o old = again t.at t.count t.done old ∙ ap (λ (rd : Reading). Some (record { at = t.at; count = t.count; done = t.done; reading = rd })) (sym o)
 
 -- ---- and the numbers of the tokenizer that was read are those that stood there
 numbered : ℕ → List Code → Bool
@@ -99,18 +93,18 @@ unfolding code_of codes numbered
 code-back n g h = let e = number_at 1 codes (n - 1) BadRecord refl (omega arith) in omega (arith, e)
 
 module _ (a n d p : ℕ) (l : List ℕ) where
-  abbrev Back : KnownState → Type 0
-  Back k = (t : Tokenizer) → k ≡ AState t → over (state_numbers t) (a ∷ n ∷ d ∷ p ∷ l) ≡ a ∷ n ∷ d ∷ p ∷ l
+  abbrev Back : Option Tokenizer → Type 0
+  Back k = (t : Tokenizer) → k ≡ Some t → over (state_numbers t) (a ∷ n ∷ d ∷ p ∷ l) ≡ a ∷ n ∷ d ∷ p ∷ l
 
   is-back : (o : Outcome) → over (a ∷ n ∷ done_numbers o) (a ∷ n ∷ d ∷ p ∷ l) ≡ a ∷ n ∷ d ∷ p ∷ l → Back (state_at a n o)
   is-back o e t q =
       let f : t ≡ record { at = a; count = n; done = o; reading = Old } = cc in
       ap (λ (u : Tokenizer). over (state_numbers u) (a ∷ n ∷ d ∷ p ∷ l)) f ∙ e
 
-  no-back : Back NoState
+  no-back : Back None
   no-back t q = cc
 
-  code_by : (b c : Bool) → ltb d 1 ≡ b → ltb d 30 ≡ c → Back (refused_at (cond b NoCode (cond c (ACode (code_of d)) NoCode)) a n p)
+  code_by : (b c : Bool) → ltb d 1 ≡ b → ltb d 30 ≡ c → Back (refused_at (cond b None (cond c (Some (code_of d)) None)) a n p)
   code_by true c e f = no-back
   code_by false false e f = no-back
   code_by false true e f =
@@ -128,7 +122,7 @@ module _ (a n d p : ℕ) (l : List ℕ) where
   back_by false false e f = code_by (ltb d 1) (ltb d 30) refl refl
 
 -- THE THEOREM, the other way: to store the tokenizer that was read changes no number.
-pub numbers_again : (l : List ℕ) → 4 ≤ length l → (t : Tokenizer) → state_of l ≡ AState t → over (state_numbers t) l ≡ l
+pub numbers_again : (l : List ℕ) → 4 ≤ length l → (t : Tokenizer) → state_of l ≡ Some t → over (state_numbers t) l ≡ l
 unfolding state_from
 numbers_again [] h = absurd (omega (arith, h))
 numbers_again (a ∷ []) h = absurd (omega (arith, h))
@@ -137,30 +131,30 @@ numbers_again (a ∷ n ∷ d ∷ []) h = absurd (omega (arith, h))
 numbers_again (a ∷ n ∷ d ∷ p ∷ l) h = back_by a n d p l (eqb d 0) (eqb d 32) refl refl
 
 -- ---- the tokenizer that was read is in the old reading, and a run leaves it there
-abbrev IsOld : KnownState → Type 0
-IsOld k = (t : Tokenizer) → k ≡ AState t → t.reading ≡ Old
+abbrev IsOld : Option Tokenizer → Type 0
+IsOld k = (t : Tokenizer) → k ≡ Some t → t.reading ≡ Old
 
 at_old : (a n : ℕ) (o : Outcome) → IsOld (state_at a n o)
 at_old a n o t q = let f : t ≡ record { at = a; count = n; done = o; reading = Old } = cc in ap (λ (u : Tokenizer). u.reading) f
 
-pub state_old : (l : List ℕ) (t : Tokenizer) → state_of l ≡ AState t → t.reading ≡ Old
+pub state_old : (l : List ℕ) (t : Tokenizer) → state_of l ≡ Some t → t.reading ≡ Old
 unfolding state_from
 state_old l = go (eqb (get_or l 2 0) 0) (eqb (get_or l 2 0) 32) (code_known (get_or l 2 0))
   where
-    go : (b c : Bool) (k : KnownCode) → IsOld (cond b (state_at (get_or l 0 0) (get_or l 1 0) Running) (cond c (state_at (get_or l 0 0) (get_or l 1 0) Ended) (refused_at k (get_or l 0 0) (get_or l 1 0) (get_or l 3 0))))
+    go : (b c : Bool) (k : Option Code) → IsOld (cond b (state_at (get_or l 0 0) (get_or l 1 0) Running) (cond c (state_at (get_or l 0 0) (get_or l 1 0) Ended) (refused_at k (get_or l 0 0) (get_or l 1 0) (get_or l 3 0))))
     go true c k = at_old _ _ _
     go false true k = at_old _ _ _
-    go false false (ACode z) = at_old _ _ _
-    go false false NoCode = λ t q. cc
+    go false false (Some z) = at_old _ _ _
+    go false false None = λ t q. cc
 
 ran_reading : (s : List ℕ) (shift limit room : ℕ) (t : Tokenizer) → (ran_of s shift limit room t).state.reading ≡ t.reading
 unfolding ran_with whole_run_with
 ran_reading s shift limit room t = go (checks s shift) (boundary s t.at) refl
   where
-    go : (c : Checked) (b : Bool) → boundary s t.at ≡ b → (run_if c s shift limit room t).state.reading ≡ t.reading
-    go (Stopped r) b q = refl
-    go Passed false q = rw q
-    go Passed true q = rw q (run_reading next s shift limit room t)
+    go : (c : Result Unit Refusal) (b : Bool) → boundary s t.at ≡ b → (run_if c s shift limit room t).state.reading ≡ t.reading
+    go (Err r) b q = refl
+    go (Ok tt) false q = rw q
+    go (Ok tt) true q = rw q (run_reading next s shift limit room t)
 
 -- ---- a run is the call from four zeros: the same result, the same records, the same answer
 module _ (s : List ℕ) (shift limit : ℕ) (records answer : List ℕ) where
@@ -182,30 +176,30 @@ module _ (s : List ℕ) (shift limit : ℕ) (records answer : List ℕ) where
 
 -- ---- what `state` holds after a call
 module _ (s : List ℕ) (shift limit : ℕ) (state records answer : List ℕ) (g : 4 ≤ length answer) (h : 4 ≤ length state) where
-  moved : (k : KnownState) → state_of state ≡ k → resume_call s shift limit state records answer ≡ resumed s shift limit state records answer k
+  moved : (k : Option Tokenizer) → state_of state ≡ k → resume_call s shift limit state records answer ≡ resumed s shift limit state records answer k
   unfolding resume_call
   moved k e = rw (le-ltb (length answer) 4 g, le-ltb (length state) 4 h, e)
 
-  module _ (t : Tokenizer) (e : state_of state ≡ AState t) where
+  module _ (t : Tokenizer) (e : state_of state ≡ Some t) where
     -- the tokenizer as the run left it
-    pub left_there : state_of (resume_call s shift limit state records answer).state ≡ AState (ran_of s shift limit (room_in records) t).state
+    pub left_there : state_of (resume_call s shift limit state records answer).state ≡ Some (ran_of s shift limit (room_in records) t).state
     unfolding resumed
-    left_there = rw (moved (AState t) e) (state_again (ran_of s shift limit (room_in records) t).state (ran_reading s shift limit (room_in records) t ∙ state_old state t e) state)
+    left_there = rw (moved (Some t) e) (state_again (ran_of s shift limit (room_in records) t).state (ran_reading s shift limit (room_in records) t ∙ state_old state t e) state)
 
     same-there : (ran_of s shift limit (room_in records) t).state ≡ t → (resume_call s shift limit state records answer).state ≡ state
     unfolding resumed
-    same-there f = rw (moved (AState t) e) (ap (λ (u : Tokenizer). over (state_numbers u) state) f ∙ numbers_again state h t e)
+    same-there f = rw (moved (Some t) e) (ap (λ (u : Tokenizer). over (state_numbers u) state) f ∙ numbers_again state h t e)
 
     -- "after 11, 12 and 13 the state is as it was", and after 20 for a cursor off the text's boundaries
-    pub refused_still : (r : Refusal) → checks s shift ≡ Stopped r → (resume_call s shift limit state records answer).state ≡ state
+    pub refused_still : (r : Refusal) → checks s shift ≡ Err r → (resume_call s shift limit state records answer).state ≡ state
     unfolding ran_with whole_run_with
     refused_still r c = same-there (rw c)
 
-    pub off_still : checks s shift ≡ Passed → boundary s t.at ≡ false → (resume_call s shift limit state records answer).state ≡ state
+    pub off_still : checks s shift ≡ (Ok tt) → boundary s t.at ≡ false → (resume_call s shift limit state records answer).state ≡ state
     unfolding ran_with whole_run_with
     off_still c b = same-there (rw (c, b))
 
   -- and after 20 for numbers that are no tokenizer's
-  pub none_still : state_of state ≡ NoState → (resume_call s shift limit state records answer).state ≡ state
+  pub none_still : state_of state ≡ None → (resume_call s shift limit state records answer).state ≡ state
   unfolding resumed
-  none_still e = rw (moved NoState e)
+  none_still e = rw (moved None e)

@@ -1,19 +1,18 @@
 // What C programs call, over numbers and slices: the archive is of the crate teykonasir_c. include/teykonasir.h says each function whole.
 #![tactic(auto)]
 
-ghost use Rattle.std.specs.Prelude.{◌≡◌, [], ◌∷◌, ◌≤◌, length};
+ghost use Rattle.std.specs.Prelude.{◌≡◌, ◌≤◌, length};
+ghost use Rattle.record.specs.Numbers.{code_number};
 ghost use Rattle.record.specs.Records.{over};
 ghost use Rattle.numbers.specs.Values.{held_number, how_code};
-ghost use Rattle.teykonasir.specs.Calls.{run_numbers, expand_code, expand_numbers, reported_code, place_numbers, located_code, located_number, answer_code, answer_place, answer_count, run_call, resume_call, expand_call, place_call, place_at_call, read_call, write_call, kind_name_call, code_name_call, came_code, came_length};
+ghost use Rattle.teykonasir.specs.Calls.{run_numbers, expand_code, expand_numbers, reported_code, place_numbers, located_code, located_number, answer_code, answer_place, answer_count, ltk_numbers, run_call, resume_call, expand_call, place_call, place_at_call, read_call, write_call, kind_name_call, code_name_call, came_code, came_length};
 ghost use Rattle.teykonasir.specs.State.{code_known, state_from, state_numbers};
 
-use escapes::{Expanded, Held};
-use ltk::Answer;
-use place::{Located, Reported};
+use escapes::{Held, Part};
+use place::Place;
 use reading::{Outcome, Tokenizer};
 use record::{Code, Reading, Refusal};
 use run::Ran;
-use text::Came;
 
 // 01's numbers of a refusal for want of room, and of one for numbers that stand for nothing.
 const NO_ROOM: u64 = 14;
@@ -23,21 +22,7 @@ const BAD_RECORD: u64 = 20;
 // The third number of a tokenizer that has ended: no refusal's.
 const ENDED: u64 = 32;
 
-// The refusal that a number has.
-#[derive(Clone, Copy)]
-pub enum KnownCode {
-    Code(Code),
-    Nothing,
-}
-
-// The tokenizer that four numbers are.
-#[derive(Clone, Copy)]
-pub enum KnownState {
-    State(Tokenizer),
-    Nothing,
-}
-
-// The number of the slice that holds an expansion.
+// The number of the slice that holds an expansion: C's alone, and a From<Held> could stand only in `escapes`.
 fn held_number(held: Held) -> u64
     ensures { result ≡ held_number held }
 {
@@ -47,112 +32,88 @@ fn held_number(held: Held) -> u64
     }
 }
 
-// An expansion's code: 0 where there is one.
-fn expand_code(e: Expanded) -> u64
+// A refusal's number.
+fn number_of(r: Refusal) -> u64
+    ensures { result ≡ code_number r.code }
+{
+    u64::from(record::code_number(r.code))
+}
+
+// An expansion's code: 0 where there is one. This and the next ones are one function to a definition, which the C functions' contracts name: over one
+// type parameter they would be said of each again.
+fn expand_code(e: Result<Part, Refusal>) -> u64
     ensures { result ≡ expand_code e }
 {
     match e {
-        Expanded::Part(_) => 0,
-        Expanded::Refused(r) => {
-            let code = r.code;
-            record::code_number(code) as u64
-        }
+        Ok(_) => 0,
+        Err(r) => number_of(r),
     }
 }
 
 // A reported place's code: 0 where there is one.
-fn reported_code(told: Reported) -> u64
+fn reported_code(told: Result<Place, Refusal>) -> u64
     ensures { result ≡ reported_code told }
 {
     match told {
-        Reported::At(_) => 0,
-        Reported::Refused(r) => {
-            let code = r.code;
-            record::code_number(code) as u64
-        }
+        Ok(_) => 0,
+        Err(r) => number_of(r),
     }
 }
 
 // The way back's code, the same.
-fn located_code(found: Located) -> u64
+fn located_code(found: Result<u64, Refusal>) -> u64
     ensures { result ≡ located_code found }
 {
     match found {
-        Located::At(_) => 0,
-        Located::Refused(r) => {
-            let code = r.code;
-            record::code_number(code) as u64
-        }
+        Ok(_) => 0,
+        Err(r) => number_of(r),
     }
 }
 
 // The place that was found, or the refusal's.
-fn located_number(found: Located) -> u64
+fn located_number(found: Result<u64, Refusal>) -> u64
     ensures { result ≡ located_number found }
 {
     match found {
-        Located::At(p) => p,
-        Located::Refused(r) => r.place,
+        Ok(p) => p,
+        Err(r) => r.place,
     }
 }
 
 // An LTK answer's code: 0 where nothing is refused.
-fn answer_code(a: Answer) -> u64
+fn answer_code(a: Result<usize, Refusal>) -> u64
     ensures { result ≡ answer_code a }
 {
     match a {
-        Answer::Done(_) => 0,
-        Answer::Refused(r) => {
-            let code = r.code;
-            record::code_number(code) as u64
-        }
+        Ok(_) => 0,
+        Err(r) => number_of(r),
     }
 }
 
-fn answer_place(a: Answer) -> u64
+fn answer_place(a: Result<usize, Refusal>) -> u64
     ensures { result ≡ answer_place a }
 {
     match a {
-        Answer::Done(_) => 0,
-        Answer::Refused(r) => r.place,
+        Ok(_) => 0,
+        Err(r) => r.place,
     }
 }
 
-fn answer_count(a: Answer) -> u64
+fn answer_count(a: Result<usize, Refusal>) -> u64
     ensures { result ≡ answer_count a }
 {
     match a {
-        Answer::Done(n) => n as u64,
-        Answer::Refused(_) => 0,
+        Ok(n) => n as u64,
+        Err(_) => 0,
     }
 }
 
 // The first numbers of an answer.
-fn put_two(answer: &mut [u64], a: u64, b: u64)
-    requires { 2 ≤ length answer.old }
-    ensures { answer.new ≡ over (a ∷ b ∷ []) answer.old }
+fn put<const N: usize>(answer: &mut [u64], numbers: [u64; N])
+    requires { N ≤ length answer.old }
+    ensures { answer.new ≡ over numbers.entry answer.old }
 {
-    answer[0] = a;
-    answer[1] = b;
-}
-
-fn put_three(answer: &mut [u64], a: u64, b: u64, c: u64)
-    requires { 3 ≤ length answer.old }
-    ensures { answer.new ≡ over (a ∷ b ∷ c ∷ []) answer.old }
-{
-    answer[0] = a;
-    answer[1] = b;
-    answer[2] = c;
-}
-
-fn put_four(answer: &mut [u64], a: u64, b: u64, c: u64, d: u64)
-    requires { 4 ≤ length answer.old }
-    ensures { answer.new ≡ over (a ∷ b ∷ c ∷ d ∷ []) answer.old }
-{
-    answer[0] = a;
-    answer[1] = b;
-    answer[2] = c;
-    answer[3] = d;
+    answer[..N].copy_from_slice(&numbers);
 }
 
 // A run's four numbers; its code is the result.
@@ -160,16 +121,19 @@ fn put_ran(answer: &mut [u64], ran: Ran) -> u64
     requires { 4 ≤ length answer.old }
     ensures { (result ≡ how_code ran.how) × (answer.new ≡ over (run_numbers ran) answer.old) }
 {
-    let how = ran.how;
-    let code = numbers::how_code(how);
-    let stored = ran.stored;
-    put_four(
-        answer,
-        code,
-        numbers::how_place(how),
-        stored as u64,
-        ran.advances,
-    );
+    let code = numbers::how_code(ran.how);
+    let place = numbers::how_place(ran.how);
+    put(answer, [code, place, ran.stored as u64, ran.advances]);
+    code
+}
+
+// An LTK answer's three numbers; its code is the result.
+fn put_answered(answer: &mut [u64], a: Result<usize, Refusal>) -> u64
+    requires { 3 ≤ length answer.old }
+    ensures { (result ≡ answer_code a) × (answer.new ≡ over (ltk_numbers a) answer.old) }
+{
+    let code = answer_code(a);
+    put(answer, [code, answer_place(a), answer_count(a)]);
     code
 }
 
@@ -207,26 +171,26 @@ const CODES: [Code; 29] = [
 ];
 
 // The refusal of a number.
-fn code_of(n: u64) -> KnownCode
+fn code_of(n: u64) -> Option<Code>
     ensures { result ≡ code_known n }
 {
     if n < 1 {
-        return KnownCode::Nothing;
+        return None;
     }
     if 30 <= n {
-        return KnownCode::Nothing;
+        return None;
     }
     let i = (n - 1) as usize;
     let code = CODES[i];
-    KnownCode::Code(code)
+    Some(code)
 }
 
 // The tokenizer of four numbers, in the old reading.
-fn state_from(at: u64, count: u64, done: u64, place: u64) -> KnownState
+fn state_from(at: u64, count: u64, done: u64, place: u64) -> Option<Tokenizer>
     ensures { result ≡ state_from at count done place }
 {
     if done == 0 {
-        return KnownState::State(Tokenizer {
+        return Some(Tokenizer {
             at,
             count,
             done: Outcome::Running,
@@ -234,7 +198,7 @@ fn state_from(at: u64, count: u64, done: u64, place: u64) -> KnownState
         });
     }
     if done == ENDED {
-        return KnownState::State(Tokenizer {
+        return Some(Tokenizer {
             at,
             count,
             done: Outcome::Ended,
@@ -242,13 +206,13 @@ fn state_from(at: u64, count: u64, done: u64, place: u64) -> KnownState
         });
     }
     match code_of(done) {
-        KnownCode::Code(code) => KnownState::State(Tokenizer {
+        Some(code) => Some(Tokenizer {
             at,
             count,
             done: Outcome::Refused(Refusal { code, place }),
             reading: Reading::Old,
         }),
-        KnownCode::Nothing => KnownState::Nothing,
+        None => None,
     }
 }
 
@@ -259,62 +223,55 @@ fn put_state(state: &mut [u64], t: Tokenizer)
 {
     let done = t.done;
     match done {
-        Outcome::Running => put_three(state, t.at, t.count, 0),
-        Outcome::Ended => put_three(state, t.at, t.count, ENDED),
-        Outcome::Refused(r) => {
-            let code = r.code;
-            put_four(
-                state,
-                t.at,
-                t.count,
-                record::code_number(code) as u64,
-                r.place,
-            )
-        }
+        Outcome::Running => put(state, [t.at, t.count, 0]),
+        Outcome::Ended => put(state, [t.at, t.count, ENDED]),
+        Outcome::Refused(r) => put(state, [t.at, t.count, number_of(r), r.place]),
     }
 }
 
 // How the bytes of a name came into a buffer, by number, and how many did.
-fn came_code(came: Came) -> u64
+fn came_code(came: Option<usize>) -> u64
     ensures { result ≡ came_code came }
 {
     match came {
-        Came::To(_) => 0,
-        Came::Full => NO_ROOM,
+        Some(_) => 0,
+        None => NO_ROOM,
     }
 }
 
-fn came_length(came: Came) -> u64
+fn came_length(came: Option<usize>) -> u64
     ensures { result ≡ came_length came }
 {
     match came {
-        Came::To(n) => n as u64,
-        Came::Full => 0,
+        Some(n) => n as u64,
+        None => 0,
     }
 }
 
 // An expansion's four numbers.
-fn put_expanded(answer: &mut [u64], e: Expanded)
+fn put_expanded(answer: &mut [u64], e: Result<Part, Refusal>)
     requires { 4 ≤ length answer.old }
     ensures { answer.new ≡ over (expand_numbers e) answer.old }
 {
     match e {
-        Expanded::Part(p) => {
-            let held = p.held;
-            put_four(answer, 0, held_number(held), p.start as u64, p.end as u64)
+        Ok(p) => {
+            put(
+                answer,
+                [0, held_number(p.held), p.start as u64, p.end as u64],
+            )
         }
-        Expanded::Refused(r) => put_four(answer, r.place, 0, 0, 0),
+        Err(r) => put(answer, [r.place, 0, 0, 0]),
     }
 }
 
 // Line and column, or the refusal's place and 0.
-fn put_reported(answer: &mut [u64], told: Reported)
+fn put_reported(answer: &mut [u64], told: Result<Place, Refusal>)
     requires { 2 ≤ length answer.old }
     ensures { answer.new ≡ over (place_numbers told) answer.old }
 {
     match told {
-        Reported::At(p) => put_two(answer, p.line, p.column),
-        Reported::Refused(r) => put_two(answer, r.place, 0),
+        Ok(p) => put(answer, [p.line, p.column]),
+        Err(r) => put(answer, [r.place, 0]),
     }
 }
 
@@ -353,14 +310,14 @@ pub fn teyk_resume(
     }
     let count = state[1];
     match state_from(state[0], count, state[2], state[3]) {
-        KnownState::State(t) => {
+        Some(t) => {
             let ran = run::run_numbers(text, shift, limit, records, t);
             let left = ran.state;
             put_state(state, left);
             put_ran(answer, ran)
         }
-        KnownState::Nothing => {
-            put_four(answer, BAD_RECORD, 0, 0, count);
+        None => {
+            put(answer, [BAD_RECORD, 0, 0, count]);
             BAD_RECORD
         }
     }
@@ -416,11 +373,7 @@ pub fn teyk_ltk_read(file: &[u8], records: &mut [u64], answer: &mut [u64]) -> u6
         return NO_ROOM;
     }
     let reading = ltk::read_numbers(file, records);
-    let code = answer_code(reading);
-    let at = answer_place(reading);
-    let stored = answer_count(reading);
-    put_three(answer, code, at, stored);
-    code
+    put_answered(answer, reading)
 }
 
 // Writes records of five numbers as an LTK file: the answer is code, place, number of bytes.
@@ -433,11 +386,7 @@ pub fn teyk_ltk_write(records: &[u64], buffer: &mut [u8], answer: &mut [u64]) ->
         return NO_ROOM;
     }
     let writing = ltk::write_numbers(records, buffer);
-    let code = answer_code(writing);
-    let at = answer_place(writing);
-    let bytes = answer_count(writing);
-    put_three(answer, code, at, bytes);
-    code
+    put_answered(answer, writing)
 }
 
 // A kind's name, into the buffer: the answer is its length.
@@ -453,7 +402,7 @@ pub fn teyk_name_of_kind(kind: u64, buffer: &mut [u8], answer: &mut [u64]) -> u6
         answer[0] = 0;
         return BAD_RECORD;
     }
-    let came = text::kind_name(buffer, Came::To(0), kind);
+    let came = text::kind_name(buffer, Some(0), kind);
     answer[0] = came_length(came);
     came_code(came)
 }
@@ -475,7 +424,7 @@ pub fn teyk_name_of_code(code: u64, buffer: &mut [u8], answer: &mut [u64]) -> u6
         answer[0] = 0;
         return BAD_RECORD;
     }
-    let came = text::code_name(buffer, Came::To(0), code);
+    let came = text::code_name(buffer, Some(0), code);
     answer[0] = came_length(came);
     came_code(came)
 }

@@ -7,7 +7,6 @@ ghost use Rattle.record.specs.Records.{over};
 ghost use Rattle.numbers.specs.Values.{how_code};
 ghost use Rattle.teykonasir_read.specs.Calls.{answered, read_call, six};
 
-use record::Chosen;
 use run::Ran;
 
 // 01's number of a refusal for want of room.
@@ -24,12 +23,7 @@ fn put_six(answer: &mut [u64], code: u64, place: u64, stored: u64, advances: u64
     requires { 6 ≤ length answer.old }
     ensures { (result ≡ code) × (answer.new ≡ over (six code place stored advances depth) answer.old) }
 {
-    answer[0] = code;
-    answer[1] = place;
-    answer[2] = stored;
-    answer[3] = advances;
-    answer[4] = depth;
-    answer[5] = NOT_TOLD;
+    answer[..6].copy_from_slice(&[code, place, stored, advances, depth, NOT_TOLD]);
     code
 }
 
@@ -38,15 +32,11 @@ fn put_read(answer: &mut [u64], ran: Ran) -> u64
     requires { 6 ≤ length answer.old }
     ensures { (result ≡ how_code ran.how) × (answer.new ≡ over (answered ran) answer.old) }
 {
-    let how = ran.how;
-    let code = numbers::how_code(how);
-    let place = numbers::how_place(how);
-    let stored = ran.stored;
     put_six(
         answer,
-        code,
-        place,
-        stored as u64,
+        numbers::how_code(ran.how),
+        numbers::how_place(ran.how),
+        ran.stored as u64,
         ran.advances,
         ran.last_depth,
     )
@@ -70,10 +60,10 @@ pub fn teyk_read(
         return NO_ROOM;
     }
     match record::reading_of(reading) {
-        Chosen::Reading(rd) => {
+        Some(rd) => {
             let ran = run::read_numbers(text, shift, limit, records, tok::start_in(rd));
             put_read(answer, ran)
         }
-        Chosen::Nothing => put_six(answer, UNKNOWN_READING, 0, 0, 0, 0),
+        None => put_six(answer, UNKNOWN_READING, 0, 0, 0, 0),
     }
 }

@@ -1,11 +1,9 @@
 -- What the sums of the code rest on: the characters passed are no more than those that there are.
-use Rattle.std.specs.Prelude.{◌+◌, ◌<◌, ◌≤◌, ℕ, Bool, cond, false, true, List, [], ◌∷◌, ◌≡◌, refl, eqb, drop, length}
+use Rattle.std.specs.Prelude.{◌+◌, ◌<◌, ◌≤◌, ℕ, Bool, cond, false, true, List, [], ◌∷◌, ◌≡◌, refl, eqb, drop, length, Option, Some, None}
 use Rattle.std.proofs.Common.{arith, ◌∙◌, ap, eqb-true}
 use Rattle.utf8.proofs.Laws.{seen}
 use Rattle.utf8.specs.Laws.{Seen, ended}
 use Rattle.utf8.specs.Utf8.{sight_at, width_of}
-use Rattle.utf8.specs.declared.Sight.{Sight}
-use Rattle.utf8.specs.declared.Sight.TheVariants.{Char, End as SightEnd}
 use Rattle.record.specs.declared.Reading.{Reading}
 use Rattle.record.specs.declared.Reading.TheVariants.{Kept, Old}
 use Rattle.scan.specs.Far.{fits}
@@ -14,7 +12,7 @@ use Rattle.scan.specs.Until.{left}
 use Rattle.reading.specs.Attribute.{advances_of, attempt, attempt_body, attempt_bracket, dropped}
 use Rattle.reading.specs.CallLaw.{Tried, attempt_tried, body_tried, bracket_tried}
 use Rattle.reading.specs.Calls.{Fair}
-use Rattle.reading.specs.declared.Attempt.{Attempt}
+use Rattle.reading.specs.Shapes.{Attempt}
 use Rattle.reading.specs.declared.Call.{Call}
 
 -- the advances of a fair call are no more than the bytes of the text
@@ -51,6 +49,6 @@ next-drop s at k v e = go (sight_at s at) refl
         rw (h.next, u)
     by c w h false q f = let z : false ≡ true = rw q at f in let y : ◌≡◌ {A = ℕ} 0 1 = cc in absurd (omega arith)
 
-    go : (x : Sight) → sight_at s at ≡ x → drop 1 (left s at) ≡ left s (at + 1)
-    go (Char c w) q = let h = seen s at c w q in by c w h (eqb c k) refl (rw h.next at e)
-    go SightEnd q = let z : false ≡ true = rw (ended s at q).none at e in let y : ◌≡◌ {A = ℕ} 0 1 = cc in absurd (omega arith)
+    go : (x : Option (ℕ × ℕ)) → sight_at s at ≡ x → drop 1 (left s at) ≡ left s (at + 1)
+    go (Some (c, w)) q = let h = seen s at c w q in by c w h (eqb c k) refl (rw h.next at e)
+    go None q = let z : false ≡ true = rw (ended s at q).none at e in let y : ◌≡◌ {A = ℕ} 0 1 = cc in absurd (omega arith)

@@ -1,15 +1,17 @@
 // What a hash starts: an attribute; or, if that attempt fails, Hash, with the cursor just after the hash.
-ghost use Rattle.std.specs.Prelude.{◌≡◌, ℕ, ◌+◌, ◌-◌, ◌<◌, ◌≤◌};
+ghost use Rattle.std.specs.Prelude.{◌≡◌, ◌+◌, ◌<◌, drop};
 ghost use Rattle.record.specs.declared.Reading.TheVariants.{Old};
 ghost use Rattle.scan.specs.Until.{left};
 ghost use Rattle.scan.specs.Far.{after};
-ghost use Rattle.scan.specs.Walk.{walk, walk_from};
+ghost use Rattle.scan.specs.Runs.{run};
+ghost use Rattle.scan.specs.Walk.{walk};
+ghost use Rattle.reading.specs.Sights.{attribute_stop};
 ghost use Rattle.reading.specs.Attribute.{advances_of, attribute_turn, attribute_last, attempt_more, attempt_body, attempt_bracket, attempt, dropped, attribute_token, hash};
 
 use reading::{Attempt, Call};
 use record::{Kind, Reading};
 use scan::{Skip, Turn, is_next};
-use utf8::{Sight, signs};
+use utf8::signs;
 
 // What the character c at a place does, with b brackets open: the balancing bracket and a newline stop, strings are read whole.
 fn attribute_turn(s: &[u8], at: usize, next: usize, c: u32, b: usize) -> Turn
@@ -34,34 +36,21 @@ fn attribute_turn(s: &[u8], at: usize, next: usize, c: u32, b: usize) -> Turn
     Turn::Pass(next, 0, b)
 }
 
-// Where the bytes from a place end that are ASCII and that the body only passes.
-fn attribute_run(s: &[u8], from: usize) -> usize
-    ensures { (from ≤ result) × ((b n : ℕ) → walk_from attribute_turn attribute_last 0 (left s.now from) b from n ≡ walk_from attribute_turn attribute_last 0 (left s.now result) b result (n + (result - from))) }
+// A byte that the body does not only pass: a bracket, a quote, a newline, or one of a longer character.
+fn ends_plain(x: u8) -> bool
+    ensures { result ≡ attribute_stop x }
 {
-    let mut at = from;
-    while at < s.len() {
-        let b = s[at];
-        if b == b'[' {
-            return at;
-        }
-        if b == b']' {
-            return at;
-        }
-        if b == b'"' {
-            return at;
-        }
-        if b == b'\n' {
-            return at;
-        }
-        if 128 <= b {
-            return at;
-        }
-        at += 1;
-    }
-    at
+    (x == b'[') | (x == b']') | (x == b'"') | (x == b'\n') | (128 <= x)
 }
 
-// Where the body of an attempt stops, after `#![`.
+// Where the bytes from a place end that are ASCII and that the body only passes: for speed alone.
+fn attribute_run(s: &[u8], from: usize) -> usize
+    ensures { result ≡ from + run attribute_stop (drop from s.now) }
+{
+    scan::runs::run(s, from, |x| ends_plain(x))
+}
+
+// Where the body of an attempt stops, after `#![`. A loop: a turn goes on where its reader ends.
 fn body_end(s: &[u8], from: usize) -> Skip
     ensures { result ≡ walk attribute_turn attribute_last 1 (left s.now from) from }
 {
@@ -73,12 +62,12 @@ fn body_end(s: &[u8], from: usize) -> Skip
         n += to - at;
         at = to;
         match utf8::char_at(s, at) {
-            Sight::Char { code, width } => match attribute_turn(s, at, at + width, code, b) {
+            Some((code, width)) => match attribute_turn(s, at, at + width, code, b) {
                 Turn::Stop => {
-                    return Skip::Past(at, n);
+                    return Ok((at, n));
                 }
                 Turn::Fail(r, p, m) => {
-                    return Skip::Lost(r, p, n + 1 + m);
+                    return Err((r, p, n + 1 + m));
                 }
                 Turn::Pass(p, m, balance) => {
                     at = p;
@@ -86,8 +75,8 @@ fn body_end(s: &[u8], from: usize) -> Skip
                     b = balance;
                 }
             },
-            Sight::End => {
-                return Skip::Past(at, n);
+            None => {
+                return Ok((at, n));
             }
         }
     }
@@ -98,13 +87,13 @@ fn attempt_body(s: &[u8], at: usize) -> Attempt
     ensures { result ≡ attempt_body (left s.now at) at }
 {
     match body_end(s, at) {
-        Skip::Past(p, m) => {
+        Ok((p, m)) => {
             if is_next(s, p, signs::RIGHT_BRACKET) {
-                return Attempt::Closed(p + 1, m + 1);
+                return Ok((p + 1, m + 1));
             }
-            Attempt::Failed(p, m)
+            Err((p, m))
         }
-        Skip::Lost(_, p, m) => Attempt::Failed(p, m),
+        Err((_, p, m)) => Err((p, m)),
     }
 }
 
@@ -114,8 +103,8 @@ fn one_more(x: Attempt) -> Attempt
     ensures { result ≡ attempt_more 1 x }
 {
     match x {
-        Attempt::Closed(p, m) => Attempt::Closed(p, 1 + m),
-        Attempt::Failed(p, m) => Attempt::Failed(p, 1 + m),
+        Ok((p, m)) => Ok((p, 1 + m)),
+        Err((p, m)) => Err((p, 1 + m)),
     }
 }
 
@@ -124,13 +113,13 @@ fn attempt_bracket(s: &[u8], at: usize) -> Attempt
     ensures { result ≡ attempt_bracket (left s.now at) at }
 {
     match utf8::char_at(s, at) {
-        Sight::Char { code, width } => {
+        Some((code, width)) => {
             if code == signs::LEFT_BRACKET {
                 return one_more(attempt_body(s, at + width));
             }
-            Attempt::Failed(at + width, 1)
+            Err((at + width, 1))
         }
-        Sight::End => Attempt::Failed(at, 0),
+        None => Err((at, 0)),
     }
 }
 
@@ -139,13 +128,13 @@ fn shebang_attribute(s: &[u8], at: usize) -> Attempt
     ensures { result ≡ attempt (left s.now at) at }
 {
     match utf8::char_at(s, at) {
-        Sight::Char { code, width } => {
+        Some((code, width)) => {
             if code == signs::BANG {
                 return one_more(attempt_bracket(s, at + width));
             }
-            Attempt::Failed(at + width, 1)
+            Err((at + width, 1))
         }
-        Sight::End => Attempt::Failed(at, 0),
+        None => Err((at, 0)),
     }
 }
 
@@ -161,11 +150,11 @@ fn one_dropped(s: &[u8], p: usize) -> Tail
     ensures { (result.at ≡ after (dropped Old (left s.now p)) (left s.now p) p) × (result.passed ≡ dropped Old (left s.now p)) }
 {
     match utf8::char_at(s, p) {
-        Sight::Char { code: _, width } => Tail {
+        Some((_, width)) => Tail {
             at: p + width,
             passed: 1,
         },
-        Sight::End => Tail { at: p, passed: 0 },
+        None => Tail { at: p, passed: 0 },
     }
 }
 
@@ -200,7 +189,7 @@ pub fn hash(s: &[u8], rd: Reading, o: usize, at: usize) -> Call
     ensures { result ≡ hash rd o (left s.now at) at }
 {
     match shebang_attribute(s, at) {
-        Attempt::Closed(p, m) => crate::more(m, attribute_token(s, rd, o, p)),
-        Attempt::Failed(_, m) => reading::plain(Kind::Hash, o, at, m),
+        Ok((p, m)) => crate::more(m, attribute_token(s, rd, o, p)),
+        Err((_, m)) => reading::plain(Kind::Hash, o, at, m),
     }
 }

@@ -9,41 +9,41 @@ ghost use Rattle.scan.specs.Walk.{turn_of};
 ghost use Rattle.reading.specs.Gaps.{comment_turn, gap_turn, gap, gap_depth_of};
 ghost use Rattle.reading.specs.Steps.{gap_stop};
 
-use scan::{Deep, Skip, Sought, Turn, Turned};
-use utf8::{Sight, signs};
+use scan::{Deep, Skip, Sought, Turn};
+use utf8::signs;
 
 // A block comment that starts at o, from after its slash and star; the star is counted.
-fn block_turn(s: &[u8], at: usize, o: usize) -> Turned
-    ensures { (result.turn ≡ turn_of 0 (skip_more 1 (block_comment o (left s.now at) at))) × (result.depth ≡ comment_depth (left s.now at)) }
+fn block_turn(s: &[u8], at: usize, o: usize) -> Deep<Turn>
+    ensures { (result.what ≡ turn_of 0 (skip_more 1 (block_comment o (left s.now at) at))) × (result.depth ≡ comment_depth (left s.now at)) }
 {
     let x = scan::block_comment(s, at, o);
     let depth = x.depth;
-    let skip = x.skip;
+    let skip = x.what;
     match skip {
-        Skip::Past(p, m) => Turned {
-            turn: Turn::Pass(p, 1 + m, 0),
+        Ok((p, m)) => Deep {
+            what: Turn::Pass(p, 1 + m, 0),
             depth,
         },
-        Skip::Lost(r, p, m) => Turned {
-            turn: Turn::Fail(r, p, 1 + m),
+        Err((r, p, m)) => Deep {
+            what: Turn::Fail(r, p, 1 + m),
             depth,
         },
     }
 }
 
 // What no block comment does.
-fn flat(turn: Turn) -> Turned
-    ensures { (result.turn ≡ turn) × (result.depth ≡ 0) }
+fn flat(what: Turn) -> Deep<Turn>
+    ensures { (result.what ≡ what) × (result.depth ≡ 0) }
 {
-    Turned { turn, depth: 0 }
+    Deep { what, depth: 0 }
 }
 
 // After a slash at o.
-fn comment_turn(s: &[u8], at: usize, o: usize) -> Turned
-    ensures { (result.turn ≡ comment_turn o (left s.now at) at) × (result.depth ≡ slash_depth (left s.now at)) }
+fn comment_turn(s: &[u8], at: usize, o: usize) -> Deep<Turn>
+    ensures { (result.what ≡ comment_turn o (left s.now at) at) × (result.depth ≡ slash_depth (left s.now at)) }
 {
     match utf8::char_at(s, at) {
-        Sight::Char { code, width } => {
+        Some((code, width)) => {
             if code == signs::SLASH {
                 let line = scan::up_to(scan::take_until(s, at, Sought::Newline));
                 return flat(scan::to_turn(0, line));
@@ -53,13 +53,13 @@ fn comment_turn(s: &[u8], at: usize, o: usize) -> Turned
             }
             flat(Turn::Stop)
         }
-        Sight::End => flat(Turn::Stop),
+        None => flat(Turn::Stop),
     }
 }
 
 // The character c at a place, with the text going on at next.
-pub fn gap_turn(s: &[u8], at: usize, next: usize, c: u32) -> Turned
-    ensures { (result.turn ≡ gap_turn 0 c (left s.now next) at next) × (result.depth ≡ cover_depth c (left s.now next)) }
+pub fn gap_turn(s: &[u8], at: usize, next: usize, c: u32) -> Deep<Turn>
+    ensures { (result.what ≡ gap_turn 0 c (left s.now next) at next) × (result.depth ≡ cover_depth c (left s.now next)) }
 {
     if c == signs::SLASH {
         return comment_turn(s, next, at);
@@ -70,28 +70,18 @@ pub fn gap_turn(s: &[u8], at: usize, next: usize, c: u32) -> Turned
     flat(Turn::Stop)
 }
 
-fn wide(x: u8) -> u32
-    ensures { result ≡ x }
+// A byte of a longer character, or one that is no white space.
+fn ends_space(x: u8) -> bool
+    ensures { result ≡ gap_stop x }
 {
-    x as u32
+    (128 <= x) || !unicode_xid::is_whitespace(u32::from(x))
 }
 
 // Where the bytes below 128 from a place end that are white space: for speed alone.
 pub fn gap_run(s: &[u8], from: usize) -> usize
     ensures { result ≡ from + run gap_stop (drop from s.now) }
 {
-    let mut at = from;
-    while at < s.len() {
-        let x = wide(s[at]);
-        if 128 <= x {
-            return at;
-        }
-        if !unicode_xid::is_whitespace(x) {
-            return at;
-        }
-        at += 1;
-    }
-    at
+    scan::runs::run(s, from, |x| ends_space(x))
 }
 
 // Whether a byte below 128 stands at a place that starts no comment: after a run of white space most gaps end at one, which is not looked at again.
@@ -101,16 +91,13 @@ fn is_over(s: &[u8], at: usize) -> bool
     if s.len() <= at {
         return false;
     }
-    let x = wide(s[at]);
-    if 128 <= x {
-        return false;
-    }
-    x != signs::SLASH
+    let x = s[at];
+    (x < 128) & (x != b'/')
 }
 
-// A gap of any kind.
-fn gap_far(s: &[u8], from: usize) -> Deep
-    ensures { (result.skip ≡ gap (left s.now from) from) × (result.depth ≡ gap_depth_of (left s.now from) from) }
+// A gap of any kind. A loop: a turn goes on where its reader ends.
+fn gap_far(s: &[u8], from: usize) -> Deep<Skip>
+    ensures { (result.what ≡ gap (left s.now from) from) × (result.depth ≡ gap_depth_of (left s.now from) from) }
 {
     let mut at = from;
     let mut n: usize = 0;
@@ -120,19 +107,19 @@ fn gap_far(s: &[u8], from: usize) -> Deep
         n += to - at;
         at = to;
         match utf8::char_at(s, at) {
-            Sight::Char { code, width } => {
+            Some((code, width)) => {
                 let x = gap_turn(s, at, at + width, code);
-                let what = x.turn;
+                let what = x.what;
                 match what {
                     Turn::Stop => {
                         return Deep {
-                            skip: Skip::Past(at, n),
+                            what: Ok((at, n)),
                             depth: deep,
                         };
                     }
                     Turn::Fail(r, p, m) => {
                         return Deep {
-                            skip: Skip::Lost(r, p, n + 1 + m),
+                            what: Err((r, p, n + 1 + m)),
                             depth: deep,
                         };
                     }
@@ -143,9 +130,9 @@ fn gap_far(s: &[u8], from: usize) -> Deep
                     }
                 }
             }
-            Sight::End => {
+            None => {
                 return Deep {
-                    skip: Skip::Past(at, n),
+                    what: Ok((at, n)),
                     depth: deep,
                 };
             }
@@ -154,13 +141,13 @@ fn gap_far(s: &[u8], from: usize) -> Deep
 }
 
 // What stands before the next token: white space below 128 and no more, most often.
-pub fn gap(s: &[u8], from: usize) -> Deep
-    ensures { (result.skip ≡ gap (left s.now from) from) × (result.depth ≡ gap_depth_of (left s.now from) from) }
+pub fn gap(s: &[u8], from: usize) -> Deep<Skip>
+    ensures { (result.what ≡ gap (left s.now from) from) × (result.depth ≡ gap_depth_of (left s.now from) from) }
 {
     let to = gap_run(s, from);
     if is_over(s, to) {
         return Deep {
-            skip: Skip::Past(to, to - from),
+            what: Ok((to, to - from)),
             depth: 0,
         };
     }

@@ -12,7 +12,7 @@ pub fn identifierish(s: &[u8], rd: Reading, o: usize, at: usize) -> Call
     ensures { result ≡ identifierish rd (left s.now o) o (left s.now at) at }
 {
     match scan::word(s, at) {
-        Found::At { place, passed } => crate::more(passed, words::word_token(s, rd, o, place)),
-        Found::Nothing { place, passed } => crate::more(passed, words::word_token(s, rd, o, place)),
+        Ok((place, passed)) => crate::more(passed, words::word_token(s, rd, o, place)),
+        Err((place, passed)) => crate::more(passed, words::word_token(s, rd, o, place)),
     }
 }

@@ -38,12 +38,8 @@ fn more(n: usize, x: Call) -> Call
     requires { n + x.advances < 18446744073709551616 }
     ensures { result ≡ more n x }
 {
-    let w = x.what;
     Call {
-        what: w,
-        at: x.at,
         advances: (n as u64) + x.advances,
-        gap_depth: x.gap_depth,
-        code_depth: x.code_depth,
+        ..x
     }
 }

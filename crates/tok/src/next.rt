@@ -8,9 +8,9 @@ ghost use Rattle.reading.specs.Symbols.{stray};
 ghost use Rattle.reading.specs.Words.{identifierish};
 
 use reading::{Call, What};
-use record::{Kind, Reading, Token, Told};
+use record::{Kind, Reading, Token};
 use scan::Skip;
-use utf8::{Sight, signs};
+use utf8::signs;
 
 // A character that no rule names, at o: it starts a word, or nothing.
 fn other(s: &[u8], rd: Reading, c: u32, o: usize, next: usize) -> Call
@@ -82,8 +82,8 @@ pub fn token_or_end(s: &[u8], rd: Reading, o: usize) -> Call
     ensures { result ≡ token_or_end rd (left s.now o) o }
 {
     match utf8::char_at(s, o) {
-        Sight::Char { code, width } => token(s, rd, code, o, o + width),
-        Sight::End => Call {
+        Some((code, width)) => token(s, rd, code, o, o + width),
+        None => Call {
             what: What::End,
             at: o as u64,
             advances: 0,
@@ -97,15 +97,10 @@ pub fn token_or_end(s: &[u8], rd: Reading, o: usize) -> Call
 fn told_token(g: u64, d: u64, t: Token) -> Token
     ensures { result ≡ told_token g d t }
 {
-    let kind = t.kind;
     Token {
-        kind,
-        start: t.start,
-        end: t.end,
-        payload_start: t.payload_start,
-        payload_end: t.payload_end,
-        gap_depth: Told::Is(g),
-        code_depth: Told::Is(d),
+        gap_depth: Some(g),
+        code_depth: Some(d),
+        ..t
     }
 }
 
@@ -127,10 +122,8 @@ fn told(g: usize, x: Call) -> Call
     let w = x.what;
     Call {
         what: told_what(g as u64, d, w),
-        at: x.at,
-        advances: x.advances,
         gap_depth: g as u64,
-        code_depth: d,
+        ..x
     }
 }
 
@@ -139,9 +132,9 @@ pub fn next_unshifted(s: &[u8], rd: Reading, at: usize) -> Call
     ensures { result ≡ next rd (left s.now at) at }
 {
     let x = crate::gaps::gap(s, at);
-    let skip = x.skip;
+    let skip = x.what;
     match skip {
-        Skip::Past(p, m) => told(x.depth, crate::more(m, token_or_end(s, rd, p))),
-        Skip::Lost(r, p, m) => reading::fail(r, p, m),
+        Ok((p, m)) => told(x.depth, crate::more(m, token_or_end(s, rd, p))),
+        Err((r, p, m)) => reading::fail(r, p, m),
     }
 }

@@ -6,14 +6,14 @@ ghost use Rattle.reading.specs.Regex.{regex_token, hashed, regex_literal, r_word
 use reading::Call;
 use record::{Code, Kind, Reading};
 use scan::{Found, Sought};
-use utf8::{Sight, signs};
+use utf8::signs;
 
 // After the opening quote of a regex with h hashes that starts at o.
 fn regex_token(s: &[u8], o: usize, h: usize, at: usize) -> Call
     ensures { result ≡ regex_token o h (left s.now at) at }
 {
     match scan::regex_end(s, at, h) {
-        Found::At { place, passed } => reading::deliver(
+        Ok((place, passed)) => reading::deliver(
             Kind::RegexLiteral,
             o,
             at,
@@ -21,12 +21,7 @@ fn regex_token(s: &[u8], o: usize, h: usize, at: usize) -> Call
             place + 1,
             passed + 1,
         ),
-        Found::Nothing { place, passed } => reading::refuse(
-            Code::UnterminatedStringLiteral,
-            o,
-            place,
-            passed,
-        ),
+        Err((place, passed)) => reading::refuse(Code::UnterminatedStringLiteral, o, place, passed),
     }
 }
 
@@ -35,7 +30,7 @@ fn hashed(s: &[u8], rd: Reading, o: usize, h: usize, at: usize) -> Call
     ensures { result ≡ hashed rd (left s.now o) o h (left s.now at) at }
 {
     match utf8::char_at(s, at) {
-        Sight::Char { code, width } => {
+        Some((code, width)) => {
             if code == signs::DOUBLE_QUOTE {
                 return crate::more(1, regex_token(s, o, h, at + width));
             }
@@ -44,7 +39,7 @@ fn hashed(s: &[u8], rd: Reading, o: usize, h: usize, at: usize) -> Call
             }
             reading::refuse(Code::ExpectedStringLiteral, at, at, 0)
         }
-        Sight::End => reading::refuse(Code::UnterminatedStringLiteral, o, at, 0),
+        None => reading::refuse(Code::UnterminatedStringLiteral, o, at, 0),
     }
 }
 
@@ -53,13 +48,8 @@ fn regex_literal(s: &[u8], rd: Reading, o: usize, at: usize) -> Call
     ensures { result ≡ regex_literal rd (left s.now o) o (left s.now at) at }
 {
     match scan::take_until(s, at, Sought::Hashes) {
-        Found::At { place, passed } => crate::more(passed, hashed(s, rd, o, passed, place)),
-        Found::Nothing { place, passed } => reading::refuse(
-            Code::UnterminatedStringLiteral,
-            o,
-            place,
-            passed,
-        ),
+        Ok((place, passed)) => crate::more(passed, hashed(s, rd, o, passed, place)),
+        Err((place, passed)) => reading::refuse(Code::UnterminatedStringLiteral, o, place, passed),
     }
 }
 

@@ -8,7 +8,7 @@ ghost use Rattle.reading.specs.Symbols.{half, stray, bang, colon, dot, look, til
 use reading::Call;
 use record::{Code, Kind, Reading};
 use scan::is_next;
-use utf8::{Sight, signs};
+use utf8::signs;
 
 // Half a symbol: refused at its first character, which is passed.
 pub fn half(o: usize, at: usize) -> Call
@@ -127,7 +127,7 @@ fn right_arrow(s: &[u8], rd: Reading, o: usize, at: usize) -> Call
     ensures { result ≡ right_arrow rd o (left s.now at) at }
 {
     match utf8::char_at(s, at) {
-        Sight::Char { code, width } => {
+        Some((code, width)) => {
             if code == signs::AT {
                 return crate::more(1, arrow_look(s, o, at + width));
             }
@@ -139,7 +139,7 @@ fn right_arrow(s: &[u8], rd: Reading, o: usize, at: usize) -> Call
             }
             arrow_code(s, rd, Kind::EqualsGreaterThanCode, o, at)
         }
-        Sight::End => reading::refuse(Code::UnterminatedCode, o, at, 0),
+        None => reading::refuse(Code::UnterminatedCode, o, at, 0),
     }
 }
 

@@ -2,8 +2,17 @@
 #![tactic(auto)]
 
 mod refusals;
-mod say;
 mod small;
+
+use sheet::Taken;
+
+// What became of a text, with the refusal's line.
+fn taken(rt: &impl Print, t: Taken) {
+    match shown::page::taken(rt, t) {
+        Some(r) => shown::refusal(rt, r),
+        None => {}
+    }
+}
 
 fn main(rt: HostRuntime) {
     small::seventeen(&rt);

@@ -1,12 +1,14 @@
 // Numbers that no sheet has, and too few of them.
-use crate::say::{say, taken, unchanged};
+use crate::taken;
+use shown::page::unchanged;
+use shown::say;
 
 // Number i of a sheet that has taken so many texts.
 fn holding(texts: u64, i: usize, n: u64) -> [u64; 96] {
-    let mut page = crate::small::empty_row();
+    let mut page = [0; 96];
     page[60] = texts;
-    if i < 96 {
-        page[i] = n;
+    if let Some(x) = page.get_mut(i) {
+        *x = n;
     }
     page
 }

@@ -1,17 +1,10 @@
 // Seventeen texts: what each adds to an empty sheet, by index, and then their sum; of the depths (61) the greatest.
-ghost use Rattle.std.specs.Prelude.{◌≡◌, length};
-
-use crate::say::{numbers, say, taken};
-
-// A sheet with nothing on it.
-pub(crate) fn empty_row() -> [u64; 96]
-    ensures { 96 ≡ length result }
-{
-    [0; 96]
-}
+use crate::taken;
+use shown::page::numbers;
+use shown::say;
 
 fn adds(rt: &impl Print, text: &[u8], sum: &mut [u64]) {
-    let mut page = empty_row();
+    let mut page = [0; 96];
     say(rt, text);
     say(rt, b" ");
     taken(rt, sheet::take(text, &mut page));
@@ -49,7 +42,7 @@ fn errors(rt: &impl Print, sum: &mut [u64]) {
 }
 
 pub(crate) fn seventeen(rt: &impl Print) {
-    let mut sum = empty_row();
+    let mut sum = [0; 96];
     plain(rt, &mut sum);
     sharp(rt, &mut sum);
     errors(rt, &mut sum);

@@ -44,8 +44,7 @@ fn function(rt: &impl Print, p: Property) {
 
 fn tail(rt: &impl Print, p: Property) {
     match p {
-        Property::Start => text(rt, b", with _\n"),
-        Property::Continue => text(rt, b", with _\n"),
+        Property::Start | Property::Continue => text(rt, b", with _\n"),
         Property::White => text(rt, b"\n"),
     }
 }
@@ -66,30 +65,9 @@ fn damage(rt: &impl Print, line: usize) {
     }
 }
 
-// One byte of words.
-fn letter(rt: &impl Print, words: &[u8], at: usize) {
-    if at < words.len() {
-        text(rt, &words[at..at + 1]);
-    }
-}
-
-fn digit(rt: &impl Print, d: u32) {
-    letter(rt, b"0123456789ABCDEF", (d % 16) as usize);
-}
-
 // A code point as Unicode writes it: four digits, or as many as it takes.
 fn code_point(rt: &impl Print, c: u32) {
-    text(rt, b"U+");
-    if 0x100000 <= c {
-        digit(rt, c / 0x100000);
-    }
-    if 0x10000 <= c {
-        digit(rt, c / 0x10000);
-    }
-    digit(rt, c / 0x1000);
-    digit(rt, c / 0x100);
-    digit(rt, c / 0x10);
-    digit(rt, c);
+    let _ = print!(rt; "U+{c:04X}");
 }
 
 fn difference(rt: &impl Print, p: Property, c: u32) {

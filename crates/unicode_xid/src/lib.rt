@@ -3,12 +3,12 @@
 
 mod tables;
 
-ghost use Rattle.std.specs.Prelude.{◌≡◌, true, length};
+ghost use Rattle.std.specs.Prelude.{◌≡◌, true};
 ghost use Rattle.unicode_xid.specs.Whitespace.{is_whitespace};
-ghost use Rattle.unicode_xid.specs.Ranges.{zip, in_ranges, ordered};
+ghost use Rattle.unicode_xid.specs.Ranges.{in_ranges, ordered};
 ghost use Rattle.unicode_xid.specs.Identifier.{is_identifier_start, is_identifier_continue, ascii_start, ascii_continue};
 
-use tables::{continue_by_table, start_by_table};
+use tables::{CONTINUE, START};
 
 // Unicode's White_Space.
 pub fn is_whitespace(c: u32) -> bool
@@ -37,7 +37,7 @@ pub fn is_identifier_start(c: u32) -> bool
     if is_common(c) {
         return true;
     }
-    start_by_table(c)
+    lookup(&START, c)
 }
 
 // XID_Continue, with `_`.
@@ -50,7 +50,7 @@ pub fn is_identifier_continue(c: u32) -> bool
     if is_common(c) {
         return true;
     }
-    continue_by_table(c)
+    lookup(&CONTINUE, c)
 }
 
 fn ascii_start(c: u32) -> bool
@@ -123,23 +123,11 @@ fn is_common(c: u32) -> bool
     is_eastern(c)
 }
 
-// Whether some range of a table holds c, by halving. The table is lent as its first numbers and its last.
-fn lookup<'a>(los: &'a [u32], his: &'a [u32], c: u32) -> bool
-    requires { (length los.now ≡ length his.now) × (ordered 0 (zip los.now his.now) ≡ true) }
-    ensures { result ≡ in_ranges (zip los.now his.now) c }
+// Whether some range of a table holds c: if any, the last one that starts at or below it.
+fn lookup(table: &[(u32, u32)], c: u32) -> bool
+    requires { ordered 0 table.now ≡ true }
+    ensures { result ≡ in_ranges table.now c }
 {
-    let mut a = 0;
-    let mut b = los.len();
-    while a < b {
-        let mid = a + ((b - a) / 2);
-        if c < los[mid] {
-            b = mid;
-        } else {
-            if c <= his[mid] {
-                return true;
-            }
-            a = mid + 1;
-        }
-    }
-    false
+    let after = table.partition_point(|range| range.0 <= c);
+    (0 < after) && (c <= table[after - 1].1)
 }

@@ -1,5 +1,5 @@
 -- One call: the two definitions step by step, in either reading. What both share answers neither 22 nor 23, so the map leaves it as it is.
-use Rattle.std.specs.Prelude.{◌+◌, ℕ, Bool, cond, false, true, ◌≡◌, eqb, drop}
+use Rattle.std.specs.Prelude.{◌+◌, ℕ, Bool, cond, false, true, ◌≡◌, eqb, drop, Ok, Err}
 use mathlib.Core.List.{List, [], ◌∷◌}
 use Rattle.std.proofs.Math.Path.{refl}
 use Rattle.utf8.specs.Utf8.{width_of}
@@ -7,8 +7,7 @@ use Rattle.record.specs.Codes.{among}
 use Rattle.record.specs.declared.Kind.{Kind}
 use Rattle.record.specs.declared.Reading.{Reading}
 use Rattle.scan.specs.IfNext.{if_next}
-use Rattle.scan.specs.declared.Skip.{Skip}
-use Rattle.scan.specs.declared.Skip.TheVariants.{Lost, Past}
+use Rattle.scan.specs.Shapes.{Skip}
 use Rattle.reading.specs.Answers.{deliver, more, plain, refuse, told, told_what}
 use Rattle.reading.specs.Gaps.{gap, gap_depth_of}
 use Rattle.reading.specs.Next.{next, next_by, starts, token, token_or_end}
@@ -136,5 +135,5 @@ module _ (rd : Reading) where
   next-mapped cs at = go (gap cs at) (gap-coarse cs at)
     where
       go : (x : Skip) → Loses Coarse x → Mapped (rust.next_by rd cs x (gap_depth_of cs at)) (next_by rd cs x (gap_depth_of cs at))
-      go (Past p m) h = mapped-told _ _ _ (mapped-more m _ _ (or-end-mapped (drop m cs) p))
-      go (Lost r p m) h = record { is = rw h.is }
+      go (Ok (p, m)) h = mapped-told _ _ _ (mapped-more m _ _ (or-end-mapped (drop m cs) p))
+      go (Err (r, p, m)) h = record { is = rw h.is }

@@ -1,5 +1,5 @@
 -- WHICH OF THE TWO IT IS, of every text: 22 exactly where half a symbol stands at the place that is told, 23 exactly where a character stands there that starts nothing.
-use Rattle.std.specs.Prelude.{◌+◌, ◌-◌, ◌≤◌, ℕ, Bool, ◌||◌, cond, false, not, List, [], ◌∷◌, ◌≡◌, eqb, length}
+use Rattle.std.specs.Prelude.{◌+◌, ◌-◌, ◌≤◌, ℕ, Bool, ◌||◌, cond, false, not, List, [], ◌∷◌, ◌≡◌, eqb, length, Ok, Err}
 use Rattle.std.proofs.Common.{arith, ◌∙◌, ap, sym, eqb-true}
 use Rattle.std.proofs.Math.Bool.{true}
 use Rattle.std.proofs.Math.Path.{refl}
@@ -18,8 +18,7 @@ use Rattle.record.specs.declared.Token.{Token}
 use Rattle.record.specs.declared.Reading.{Reading}
 use Rattle.scan.specs.Far.{Far, far_left}
 use Rattle.scan.specs.Until.{left}
-use Rattle.scan.specs.declared.Skip.{Skip}
-use Rattle.scan.specs.declared.Skip.TheVariants.{Lost, Past}
+use Rattle.scan.specs.Shapes.{Skip}
 use Rattle.reading.specs.Answers.{more, told as deep, told_what}
 use Rattle.reading.specs.Gaps.{gap, gap_depth_of}
 use Rattle.reading.specs.Next.{next, token_or_end}
@@ -113,7 +112,7 @@ deep-told p g d End = refl
 -- in every reading
 module _ (rd : Reading) where
   -- ---- OF A CALL. Its gap is passed, and a token is to start at p
-  module _ (s : List ℕ) (at p m : ℕ) (e : gap (left s at) at ≡ Past p m) where
+  module _ (s : List ℕ) (at p m : ℕ) (e : gap (left s at) at ≡ Ok (p, m)) where
     there : told p (next rd (left s at) at).what ≡ unknown_of (left s p)
     unfolding more deep
     there =
@@ -135,10 +134,10 @@ module _ (rd : Reading) where
   told-there s at z e f = go (gap (left s at) at) refl (gap-coarse (left s at) at)
     where
       go : (x : Skip) → gap (left s at) at ≡ x → Loses Coarse x → code_number z.code ≡ unknown_of (left s z.place)
-      go (Past p m) q h =
+      go (Ok (p, m)) q h =
           let t = told_so p (left s p) z (rw e at (there s at p m q)) f in
           t.1 ∙ ap (λ (k : ℕ). unknown_of (left s k)) (sym t.0)
-      go (Lost r p m) q h =
+      go (Err (r, p, m)) q h =
           let w : Error r ≡ Error z = sym (ap (λ (x : Call). x.what) (next_lost rd s at p m r q)) ∙ e in
           let v : r ≡ z = cc in
           no (sym (rw v at h.is) ∙ f)

@@ -1,6 +1,6 @@
 -- Runs over any two calls of which one is the map of the other: so are their steps, their runs, and their reports.
 use Prim.Native.Nat.{◌+◌, ◌-◌, suc, zero, ℕ}
-use Rattle.std.specs.Prelude.{Bool, List, ◌≡◌, ltb, drop, length}
+use Rattle.std.specs.Prelude.{Bool, List, ◌≡◌, ltb, drop, length, Result, Ok, Err}
 use Rattle.std.proofs.Math.Bool.{cond, false, true}
 use Rattle.std.proofs.Math.Path.{ap, refl}
 use Rattle.utf8.specs.Utf8.{boundary, chars}
@@ -8,8 +8,6 @@ use Rattle.record.specs.Checks.{checks}
 use Rattle.record.specs.Codes.{Refuses, RefusesIn, checks-refuse}
 use Rattle.record.specs.Records.{refusal}
 use Rattle.record.specs.Rust.{rust_code}
-use Rattle.record.specs.declared.Checked.{Checked}
-use Rattle.record.specs.declared.Checked.TheVariants.{Passed, Refused as Stopped}
 use Rattle.record.specs.declared.Code.{Code}
 use Rattle.record.specs.declared.Code.TheVariants.{BadRecord, WorkLimit}
 use Rattle.record.specs.declared.Reading.{Reading}
@@ -100,9 +98,9 @@ module _ (old new : Reading → List ℕ → ℕ → Call) (mapped : (rd : Readi
       by true = step-mapped t
       by false = refl
 
-      go : (c : Checked) → RefusesIn (λ (c : Code). rust_code c ≡ c) c → step_if_with old c s shift limit (rust_tokenizer t) ≡ rust_stepped (step_if_with new c s shift limit t)
-      go Passed h = by (boundary s t.at)
-      go (Stopped z) h = let e = stays z h in rw (← e)
+      go : (c : Result Unit Refusal) → RefusesIn (λ (c : Code). rust_code c ≡ c) c → step_if_with old c s shift limit (rust_tokenizer t) ≡ rust_stepped (step_if_with new c s shift limit t)
+      go (Ok tt) h = by (boundary s t.at)
+      go (Err z) h = let e = stays z h in rw (← e)
 
   pub whole-mapped : (room : ℕ) (t : Tokenizer) → whole_run_with old s shift limit room (rust_tokenizer t) ≡ rust_run (whole_run_with new s shift limit room t)
   unfolding whole_run_with
@@ -113,9 +111,9 @@ module _ (old new : Reading → List ℕ → ℕ → Call) (mapped : (rd : Readi
       by true = run-mapped room t
       by false = refl
 
-      go : (c : Checked) → RefusesIn (λ (c : Code). rust_code c ≡ c) c → run_if_with old c s shift limit room (rust_tokenizer t) ≡ rust_run (run_if_with new c s shift limit room t)
-      go Passed h = by (boundary s t.at)
-      go (Stopped z) h = let e = stays z h in rw (← e)
+      go : (c : Result Unit Refusal) → RefusesIn (λ (c : Code). rust_code c ≡ c) c → run_if_with old c s shift limit room (rust_tokenizer t) ≡ rust_run (run_if_with new c s shift limit room t)
+      go (Ok tt) h = by (boundary s t.at)
+      go (Err z) h = let e = stays z h in rw (← e)
 
   pub ran-mapped : (room : ℕ) (t : Tokenizer) → ran_with old s shift limit room (rust_tokenizer t) ≡ rust_ran (ran_with new s shift limit room t)
   unfolding ran_with

@@ -1,6 +1,6 @@
 -- ONE CALL AS IT WAS before 02, E3: half a symbol and a character that starts nothing are both the Rust's `UnrecognizedToken`. Demand 2 speaks of this definition, in the old reading. The
 -- definitions are those that reach such an answer, as they stood in reading/specs; every other reader is reading's own.
-use Rattle.std.specs.Prelude.{◌+◌, ℕ, cond, List, [], ◌∷◌, eqb, drop}
+use Rattle.std.specs.Prelude.{◌+◌, ℕ, cond, List, [], ◌∷◌, eqb, drop, Ok, Err}
 use Rattle.utf8.specs.Chars.{'!, '#, '-, '/, ':, '=, '>, '?, 'L, 'R, 'at, 'backtick, 'dot, 'dquote, 'quote, 'r, '~}
 use Rattle.utf8.specs.Utf8.{width_of}
 use Rattle.unicode_xid.specs.Identifier.{is_identifier_start}
@@ -8,8 +8,7 @@ use Rattle.record.specs.declared.Code.TheVariants.{UnrecognizedToken, Unterminat
 use Rattle.record.specs.declared.Kind.TheVariants.{DotDot, Equals, EqualsEquals, EqualsGreaterThanCode, EqualsGreaterThanLookahead, EqualsGreaterThanLookbehind, EqualsGreaterThanQuestionCode, Lookahead, Lookbehind, MinusGreaterThan, TildeTilde}
 use Rattle.record.specs.declared.Reading.{Reading}
 use Rattle.scan.specs.IfNext.{if_next}
-use Rattle.scan.specs.declared.Skip.{Skip}
-use Rattle.scan.specs.declared.Skip.TheVariants.{Lost, Past}
+use Rattle.scan.specs.Shapes.{Skip}
 use Rattle.reading.specs.Answers.{fail, more, plain, refuse, told}
 use Rattle.reading.specs.Attribute.{hash}
 use Rattle.reading.specs.Gaps.{gap, gap_depth_of}
@@ -81,8 +80,8 @@ token_or_end rd (c ∷ cs) o = token rd c cs o (o + width_of c)
 
 -- (the depths are 02's, E4: both tell the same)
 abbrev pub next_by : Reading → List ℕ → Skip → ℕ → Call
-next_by rd cs (Past p m) d = told d (more m (token_or_end rd (drop m cs) p))
-next_by rd cs (Lost r p m) d = fail r p m
+next_by rd cs (Ok (p, m)) d = told d (more m (token_or_end rd (drop m cs) p))
+next_by rd cs (Err (r, p, m)) d = fail r p m
 
 unfoldable pub next : Reading → List ℕ → ℕ → Call
 next rd cs at = next_by rd cs (gap cs at) (gap_depth_of cs at)

@@ -1,13 +1,11 @@
 -- The forms of a character (specs/Forms.antt), written and read, where it takes which code points are scalar values: Laws.antt and RoundTrip.antt
 -- rest on it.
-use Rattle.std.specs.Prelude.{ℕ, ◌+◌, ◌-◌, ◌*◌, ◌/◌, ◌≤◌, ◌<◌, Bool, cond, List, [], ◌∷◌, ◌++◌, ltb, length, get_or, drop}
+use Rattle.std.specs.Prelude.{ℕ, ◌+◌, ◌-◌, ◌*◌, ◌/◌, ◌≤◌, ◌<◌, Bool, cond, List, [], ◌∷◌, ◌++◌, ltb, length, get_or, drop, Option, Some, None, Ok}
 use Rattle.std.proofs.Common.{sym, drop-cons, le-leb}
 use Rattle.std.proofs.Math.Path.{◌≡◌, refl}
 use Rattle.std.proofs.Math.Bool.{true, false}
 use native.Mathlib.Omega.{arith}
 use Rattle.std.proofs.Math.Dec.{leb}
-use Rattle.utf8.specs.declared.Sight.{Sight}
-use Rattle.utf8.specs.declared.Sight.TheVariants.{Char, End}
 use Rattle.utf8.specs.Utf8.{low, high, code2, code3, code4, lead, sight, width_of}
 use Rattle.utf8.specs.Encode.{is_scalar, tail, encode}
 use Rattle.utf8.specs.Picks.{by_test, tests}
@@ -35,11 +33,11 @@ module _ (c : ℕ) (P : Type 0) where
       go false false z p q r = let e' : false ≡ true = rw (p, q) at e in let z : ◌≡◌ {A = ℕ} 0 1 = cc in absurd (omega arith)
 
 module _ (c : ℕ) (s : List ℕ) where
-  sight_1 : c < 0x80 → Char c 1 ≡ sight (c ∷ s)
+  sight_1 : c < 0x80 → Some (c, 1) ≡ sight (c ∷ s)
   unfolding sight
   sight_1 h = lead_ascii _ _ _ _ _ _ h
 
-  sight_2 : 0x80 ≤ c → c < 0x800 → Char c 2 ≡ sight ((0xC0 + c / 64) ∷ tail c ∷ s)
+  sight_2 : 0x80 ≤ c → c < 0x800 → Some (c, 2) ≡ sight ((0xC0 + c / 64) ∷ tail c ∷ s)
   unfolding sight
   sight_2 g h =
       lead_2 _ _ (0xC0 + c / 64) (tail c) _ _ c
@@ -47,7 +45,7 @@ module _ (c : ℕ) (s : List ℕ) where
       (high_fits (0xC0 + c / 64) (tail c) (omega arith) (λ p. omega arith) (λ p. omega arith))
       (omega arith) (omega arith) (there_2 c)
 
-  sight_3 : is_scalar c ≡ true → 0x800 ≤ c → c < 0x10000 → Char c 3 ≡ sight ((0xE0 + c / 4096) ∷ tail (c / 64) ∷ tail c ∷ s)
+  sight_3 : is_scalar c ≡ true → 0x800 ≤ c → c < 0x10000 → Some (c, 3) ≡ sight ((0xE0 + c / 4096) ∷ tail (c / 64) ∷ tail c ∷ s)
   unfolding sight
   sight_3 e g h =
       lead_3 _ _ (0xE0 + c / 4096) (tail (c / 64)) (tail c) _ c
@@ -56,7 +54,7 @@ module _ (c : ℕ) (s : List ℕ) where
       (λ p. scalar_by c (tail (c / 64) ≤ 0x9F) e (λ q. omega arith) (λ q r. omega arith)) (λ p. omega arith))
       (omega arith) (omega arith) (omega arith) (omega arith) (there_3 c)
 
-  sight_4 : is_scalar c ≡ true → 0x10000 ≤ c → Char c 4 ≡ sight ((0xF0 + c / 262144) ∷ tail (c / 4096) ∷ tail (c / 64) ∷ tail c ∷ s)
+  sight_4 : is_scalar c ≡ true → 0x10000 ≤ c → Some (c, 4) ≡ sight ((0xF0 + c / 262144) ∷ tail (c / 4096) ∷ tail (c / 64) ∷ tail c ∷ s)
   unfolding sight
   sight_4 e g =
       let m : c ≤ 0x10FFFF = scalar_by c (c ≤ 0x10FFFF) e (λ q. omega arith) (λ q r. r) in
@@ -65,9 +63,9 @@ module _ (c : ℕ) (s : List ℕ) where
       (high_fits (0xF0 + c / 262144) (tail (c / 4096)) (omega arith) (λ p. omega arith) (λ p. omega arith))
       (omega arith) (omega arith) (omega arith) (omega arith) (omega arith) (omega arith) (there_4 c)
 
-  pub written-seen : is_scalar c ≡ true → sight (encode c ++ s) ≡ Char c (width_of c)
+  pub written-seen : is_scalar c ≡ true → sight (encode c ++ s) ≡ Some (c, width_of c)
   written-seen e =
-      width_by c (sight (encode c ++ s) ≡ Char c (width_of c))
+      width_by c (sight (encode c ++ s) ≡ Some (c, width_of c))
       (λ h. rw (← (encode_1 c h), ← (width_1 c h)) (sym (sight_1 h)))
       (λ g h. rw (← (encode_2 c g h), ← (width_2 c g h)) (sym (sight_2 g h)))
       (λ g h.
@@ -87,17 +85,17 @@ pub record Form (s : List ℕ) (k w : ℕ) : Type 0 where
   pub bytes : encode k ++ drop w s ≡ s
   pub tails : (i : ℕ) → 0 < i → i < w → Tail (get_or s i 0)
 
-abbrev OkIn : List ℕ → Sight → Type 0
-OkIn s (Char k w) = Form s k w
-OkIn s End = Unit {0}
+abbrev FormedIn : List ℕ → Option (ℕ × ℕ) → Type 0
+FormedIn s (Some (k, w)) = Form s k w
+FormedIn s None = Unit {0}
 
-record Ok (s : List ℕ) (x : Sight) : Type 0 where
-  is : OkIn s x
+record Formed (s : List ℕ) (x : Option (ℕ × ℕ)) : Type 0 where
+  is : FormedIn s x
 
-ok-test : (s : List ℕ) (t : Bool) (x y : Sight) → (t ≡ true → Ok s x) → (t ≡ false → Ok s y) → Ok s (cond t x y)
-ok-test s t x y f g = by_test (Ok s) t x y f g
+ok-test : (s : List ℕ) (t : Bool) (x y : Option (ℕ × ℕ)) → (t ≡ true → Formed s x) → (t ≡ false → Formed s y) → Formed s (cond t x y)
+ok-test s t x y f g = by_test (Formed s) t x y f g
 
-ok_end : (s : List ℕ) → Ok s End
+ok_end : (s : List ℕ) → Formed s None
 ok_end s = record { is = tt }
 
 -- no surrogate in three bytes, nothing above 10FFFF in four
@@ -112,7 +110,7 @@ scalar_4 : (a b c d : ℕ) → a < 0xF5 → 0x10000 ≤ code4 a b c d → b ≤ 
 scalar_4 a b c d p q r s t = scalar_high _ (omega arith) (omega (arith, high-most a, high_4 a (omega arith)))
 
 module _ (a : ℕ) (s : List ℕ) where
-  ok_1 : ltb a 0x80 ≡ true → Ok (a ∷ s) (Char a 1)
+  ok_1 : ltb a 0x80 ≡ true → Formed (a ∷ s) (Some (a, 1))
   ok_1 t =
       let h : a < 0x80 = omega tests in
       record {
@@ -134,7 +132,7 @@ module _ (a : ℕ) (s : List ℕ) where
     in_2 : 0 < length s
     in_2 = within s 0 (omega (arith, tail_2))
 
-    ok_2 : ltb a 0xE0 ≡ true → Ok (a ∷ s) (Char (code2 a (get_or s 0 0)) 2)
+    ok_2 : ltb a 0xE0 ≡ true → Formed (a ∷ s) (Some (code2 a (get_or s 0 0), 2))
     ok_2 t =
         let b : ℕ = get_or s 0 0 in
         let k : ℕ = code2 a b in
@@ -160,7 +158,7 @@ module _ (a : ℕ) (s : List ℕ) where
       in_3 : 1 < length s
       in_3 = within s 1 (omega (arith, tail_3))
 
-      ok_3 : ltb a 0xF0 ≡ true → Ok (a ∷ s) (Char (code3 a (get_or s 0 0) (get_or s 1 0)) 3)
+      ok_3 : ltb a 0xF0 ≡ true → Formed (a ∷ s) (Some (code3 a (get_or s 0 0) (get_or s 1 0), 3))
       ok_3 t =
           let b : ℕ = get_or s 0 0 in
           let c : ℕ = get_or s 1 0 in
@@ -182,7 +180,7 @@ module _ (a : ℕ) (s : List ℕ) where
           }
 
       ok_4 : ltb a 0xF0 ≡ false → ltb (get_or s 2 0) 0x80 ≡ false → ltb 0xBF (get_or s 2 0) ≡ false → ltb a 0xF5 ≡ true
-          → Ok (a ∷ s) (Char (code4 a (get_or s 0 0) (get_or s 1 0) (get_or s 2 0)) 4)
+          → Formed (a ∷ s) (Some (code4 a (get_or s 0 0) (get_or s 1 0) (get_or s 2 0), 4))
       ok_4 t8 t9 t10 t =
           let b : ℕ = get_or s 0 0 in
           let c : ℕ = get_or s 1 0 in
@@ -207,10 +205,10 @@ module _ (a : ℕ) (s : List ℕ) where
                 };
           }
 
-ok : (s : List ℕ) → Ok s (sight s)
+ok : (s : List ℕ) → Formed s (sight s)
 unfolding sight lead
 ok [] = ok_end []
 ok (a ∷ s) = search (ok-test, ok_end, ok_1, ok_2, ok_3, ok_4) depth 26
 
-pub form : (s : List ℕ) (k w : ℕ) → sight s ≡ Char k w → Form s k w
+pub form : (s : List ℕ) (k w : ℕ) → sight s ≡ Some (k, w) → Form s k w
 form s k w e = rw e at (ok s).is

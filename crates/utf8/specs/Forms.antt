@@ -1,18 +1,17 @@
 -- The four forms of a character (UTF8-1 to UTF8-4 of RFC 3629), each written and read: what the laws rest on.
-use Rattle.std.specs.Prelude.{ℕ, zero, suc, ◌+◌, ◌-◌, ◌*◌, ◌/◌, ◌≤◌, ◌<◌, Bool, cond, List, [], ◌∷◌, ltb, eqb, length, get_or}
+use Rattle.std.specs.Prelude.{ℕ, zero, suc, ◌+◌, ◌-◌, ◌*◌, ◌/◌, ◌≤◌, ◌<◌, Bool, cond, List, [], ◌∷◌, ltb, eqb, length, get_or, Some}
 use Rattle.std.proofs.Common.{suc-le-suc, eqb-true}
 use Rattle.std.proofs.Math.Path.{◌≡◌, refl}
 use Rattle.std.proofs.Math.Bool.{true, false}
 use Rattle.std.proofs.Math.Nat.{div-div-eq-div-mul}
 use native.Mathlib.Omega.{arith}
-use Rattle.utf8.specs.declared.Sight.TheVariants.{Char}
 use Rattle.utf8.specs.Utf8.{low, high, code2, code3, code4, lead, width_of}
 use Rattle.utf8.specs.Encode.{tail, encode}
 use Rattle.utf8.specs.Picks.{picks, by_test, tests}
 use Rattle.std.proofs.lemmas.Bool.{eqb-false}
 
 -- a first byte below 128 is the character
-pub lead_ascii : (l h a b c d : ℕ) → a < 0x80 → Char a 1 ≡ lead l h a b c d
+pub lead_ascii : (l h a b c d : ℕ) → a < 0x80 → Some (a, 1) ≡ lead l h a b c d
 unfolding lead
 lead_ascii l h a b c d q = search picks
 
@@ -129,27 +128,25 @@ pub high_fits : (a b : ℕ) → b ≤ 0xBF → (a ≡ 0xED → b ≤ 0x9F) → (
 high_fits a b h f g = high_by a (λ (l : ℕ). b ≤ l) f g (λ p q. h)
 
 module _ (l h a b c d k : ℕ) (fits : l ≤ b) (ends : b ≤ h) where
-  pub lead_2 : 0xC2 ≤ a → a < 0xE0 → k ≡ code2 a b → Char k 2 ≡ lead l h a b c d
+  pub lead_2 : 0xC2 ≤ a → a < 0xE0 → k ≡ code2 a b → Some (k, 2) ≡ lead l h a b c d
   unfolding lead
-  lead_2 p q e = let g : 0x80 ≤ a = omega arith in let r : Char k 2 ≡ Char (code2 a b) 2 = cc in search picks depth 14
+  lead_2 p q e = let g : 0x80 ≤ a = omega arith in rw e (search picks depth 14)
 
   module _ (c1 : 0x80 ≤ c) (c2 : c ≤ 0xBF) where
-    pub lead_3 : 0xE0 ≤ a → a < 0xF0 → k ≡ code3 a b c → Char k 3 ≡ lead l h a b c d
+    pub lead_3 : 0xE0 ≤ a → a < 0xF0 → k ≡ code3 a b c → Some (k, 3) ≡ lead l h a b c d
     unfolding lead
     lead_3 p q e =
         let f : 0x80 ≤ a = omega arith in
         let g : 0xC2 ≤ a = omega arith in
-        let r : Char k 3 ≡ Char (code3 a b c) 3 = cc in
-        search picks depth 14
+        rw e (search picks depth 14)
 
-    pub lead_4 : 0xF0 ≤ a → a < 0xF5 → 0x80 ≤ d → d ≤ 0xBF → k ≡ code4 a b c d → Char k 4 ≡ lead l h a b c d
+    pub lead_4 : 0xF0 ≤ a → a < 0xF5 → 0x80 ≤ d → d ≤ 0xBF → k ≡ code4 a b c d → Some (k, 4) ≡ lead l h a b c d
     unfolding lead
     lead_4 p q d1 d2 e =
         let e1 : 0x80 ≤ a = omega arith in
         let f : 0xC2 ≤ a = omega arith in
         let g : 0xE0 ≤ a = omega arith in
-        let r : Char k 4 ≡ Char (code4 a b c d) 4 = cc in
-        search picks depth 14
+        rw e (search picks depth 14)
 
 pub written-width : (c : ℕ) → length (encode c) ≡ width_of c
 written-width c =

@@ -1,15 +1,13 @@
 -- Laws of UTF-8 reading: what a step from character to character tells. The crates above stand on `Seen`, `Ended` and `Whole`. The laws that
 -- rest on the forms of a character are in proofs/Laws.antt.
-use Rattle.std.specs.Prelude.{ℕ, zero, suc, ◌+◌, ◌-◌, ◌≤◌, ◌<◌, ◌≡◌, refl, Bool, true, false, ◌||◌, ◌&&◌, List, [], ◌∷◌, ltb, eqb, length, get_or, drop}
+use Rattle.std.specs.Prelude.{ℕ, zero, suc, ◌+◌, ◌-◌, ◌≤◌, ◌<◌, ◌≡◌, refl, Bool, true, false, ◌||◌, ◌&&◌, List, [], ◌∷◌, ltb, eqb, length, get_or, drop, Some, None, Ok, Err}
 use Rattle.std.proofs.Common.{sym, ap, ◌∙◌, arith, drop_of_length-le, drop-cons, get_or-drop, lt-ltb, le-ltb, eq-eqb, ne_eqb, eqb-true}
-use Rattle.utf8.specs.declared.Sight.TheVariants.{Char, End}
-use Rattle.utf8.specs.declared.Utf8.TheVariants.{Valid, Bad}
 use Rattle.utf8.specs.Utf8.{low, high, lead, sight, sight_at, chars, chars_from, width_of, reach, verdict, boundary}
 use Rattle.utf8.specs.Forms.{lead_ascii, Tail}
 use Rattle.utf8.specs.Picks.{tests}
 
 -- what stands at a place, by the bytes of the whole list
-pub sight_past : (s : List ℕ) (at : ℕ) → length s ≤ at → sight_at s at ≡ End
+pub sight_past : (s : List ℕ) (at : ℕ) → length s ≤ at → sight_at s at ≡ None
 unfolding sight sight_at
 sight_past s at h = rw (drop_of_length-le s h)
 
@@ -23,7 +21,7 @@ sight_in s at h =
     rw (drop-cons s at 0 h)
     (cc (byte_on s at 0 1 (omega arith), byte_on s at 1 2 (omega arith), byte_on s at 2 3 (omega arith)))
 
-pub sight_ascii : (s : List ℕ) (at : ℕ) → at < length s → get_or s at 0 < 0x80 → Char (get_or s at 0) 1 ≡ sight_at s at
+pub sight_ascii : (s : List ℕ) (at : ℕ) → at < length s → get_or s at 0 < 0x80 → Some (get_or s at 0, 1) ≡ sight_at s at
 sight_ascii s at h q = lead_ascii _ _ _ _ _ _ q ∙ sym (sight_in s at h)
 
 -- two tests that both hold
@@ -38,12 +36,12 @@ skip zero s = refl
 skip (suc k) [] = refl
 skip (suc k) (a ∷ s) = skip k s
 
-pub uncons : (s : List ℕ) (k w : ℕ) → sight s ≡ Char k w → chars s ≡ k ∷ chars_from (w - 1) (drop 1 s)
+pub uncons : (s : List ℕ) (k w : ℕ) → sight s ≡ Some (k, w) → chars s ≡ k ∷ chars_from (w - 1) (drop 1 s)
 unfolding chars_from chars sight
 uncons [] k w e = let z : ◌≡◌ {A = ℕ} 0 1 = cc in absurd (omega arith)
 uncons (a ∷ s) k w e = rw (e, chars_from)
 
-blank : (s : List ℕ) → sight s ≡ End → chars s ≡ []
+blank : (s : List ℕ) → sight s ≡ None → chars s ≡ []
 unfolding chars_from chars
 blank [] e = refl
 blank (a ∷ s) e = rw (e, chars_from)
@@ -58,7 +56,7 @@ pub record Seen (s : List ℕ) (at k w : ℕ) : Type 0 where
 pub record Ended (s : List ℕ) (at : ℕ) : Type 0 where
   pub none : chars (drop at s) ≡ []
 
-pub ended : (s : List ℕ) (at : ℕ) → sight_at s at ≡ End → Ended s at
+pub ended : (s : List ℕ) (at : ℕ) → sight_at s at ≡ None → Ended s at
 unfolding sight_at
 ended s at e = record { none = blank (drop at s) e }
 
@@ -72,13 +70,13 @@ unfolding reach
 reach-end s at e = rw e.none
 
 -- a character's first byte is no tail
-pub heads : (l h a b c d k w : ℕ) → lead l h a b c d ≡ Char k w → (ltb a 0x80 || ltb 0xBF a) ≡ true
+pub heads : (l h a b c d k w : ℕ) → lead l h a b c d ≡ Some (k, w) → (ltb a 0x80 || ltb 0xBF a) ≡ true
 unfolding lead
 heads l h a b c d k w e = go (ltb a 0x80) (ltb a 0xC2) refl refl
   where
     go : (t u : Bool) → ltb a 0x80 ≡ t → ltb a 0xC2 ≡ u → (ltb a 0x80 || ltb 0xBF a) ≡ true
     go true u p q = rw p
-    go false true p q = let e' : End ≡ Char k w = simp (p, q) at e in let z : ◌≡◌ {A = ℕ} 0 1 = cc in absurd (omega arith)
+    go false true p q = let e' : None ≡ Some (k, w) = simp (p, q) at e in let z : ◌≡◌ {A = ℕ} 0 1 = cc in absurd (omega arith)
     go false false p q = rw (p, lt-ltb 0xBF a (omega tests))
 
 -- a place from which the rest is read to the very end, and that such a place is a boundary
@@ -88,15 +86,15 @@ Whole s at = reach (chars (drop at s)) at ≡ length s
 pub whole-step : (s : List ℕ) (at k w : ℕ) → Seen s at k w → Whole s at → Whole s (at + w)
 whole-step s at k w h o = sym (reach_step s at k w h) ∙ o
 
-pub valid_whole : (s : List ℕ) → verdict s ≡ Valid → Whole s 0
+pub valid_whole : (s : List ℕ) → verdict s ≡ (Ok tt) → Whole s 0
 valid_whole s e = go (eqb (reach (chars s) 0) (length s)) refl
   where
     go : (t : Bool) → eqb (reach (chars s) 0) (length s) ≡ t → Whole s 0
     go true p = eqb-true _ _ p
-    go false p = let e' : Bad (reach (chars s) 0) ≡ Valid = rw p at e in let z : ◌≡◌ {A = ℕ} 0 1 = cc in absurd (omega arith)
+    go false p = let e' : Err (reach (chars s) 0) ≡ (Ok tt) = rw p at e in let z : ◌≡◌ {A = ℕ} 0 1 = cc in absurd (omega arith)
 
 pub ascii_end : (s : List ℕ) (i : ℕ) (m : Bool) → i ≤ length s → length s ≤ i → (m ≡ true → reach (chars (drop i s)) i ≡ reach (chars s) 0)
-    → m ≡ true → verdict s ≡ Valid
+    → m ≡ true → verdict s ≡ Ok tt
 ascii_end s i m a b h t =
     let e : reach (chars s) 0 ≡ i = sym (h t) ∙ reach-end s i (ended s i (sight_past s i b)) in
     let f : i ≡ length s = omega arith in

@@ -1,9 +1,5 @@
 -- UTF-8 by RFC 3629, over lists of bytes. Every definition is total on every list of numbers.
-use Rattle.std.specs.Prelude.{ℕ, zero, suc, ◌+◌, ◌-◌, ◌*◌, List, [], ◌∷◌, Bool, cond, ◌&&◌, ◌||◌, length, get_or, drop, ltb, eqb}
-use Rattle.utf8.specs.declared.Sight.{Sight}
-use Rattle.utf8.specs.declared.Sight.TheVariants.{Char, End}
-use Rattle.utf8.specs.declared.Utf8.{Utf8}
-use Rattle.utf8.specs.declared.Utf8.TheVariants.{Valid, Bad}
+use Rattle.std.specs.Prelude.{ℕ, zero, suc, ◌+◌, ◌-◌, ◌*◌, List, [], ◌∷◌, Bool, cond, ◌&&◌, ◌||◌, length, get_or, drop, ltb, eqb, Option, Some, None, Result, Ok, Err}
 
 -- The bytes that RFC 3629 allows after the first byte a, by section 4's
 --     UTF8-3 = %xE0 %xA0-BF UTF8-tail / %xE1-EC 2( UTF8-tail ) / %xED %x80-9F UTF8-tail / %xEE-EF 2( UTF8-tail )
@@ -28,41 +24,41 @@ abbrev pub code4 : ℕ → ℕ → ℕ → ℕ → ℕ
 code4 a b c d = (a - 0xF0) * 262144 + (b - 0x80) * 4096 + (c - 0x80) * 64 + (d - 0x80)
 
 -- the character that the bytes a b c d start with, whose second byte is from l to h
-unfoldable pub lead : ℕ → ℕ → ℕ → ℕ → ℕ → ℕ → Sight
+unfoldable pub lead : ℕ → ℕ → ℕ → ℕ → ℕ → ℕ → Option (ℕ × ℕ)
 lead l h a b c d =
     -- UTF8-1 = %x00-7F
-    cond (ltb a 0x80) (Char a 1)
+    cond (ltb a 0x80) (Some (a, 1))
     -- no form starts with 80 to C1
-    (cond (ltb a 0xC2) End
+    (cond (ltb a 0xC2) None
     -- the second byte is too small, or too great
-    (cond (ltb b l) End
-    (cond (ltb h b) End
+    (cond (ltb b l) None
+    (cond (ltb h b) None
     -- UTF8-2 = %xC2-DF UTF8-tail
-    (cond (ltb a 0xE0) (Char (code2 a b) 2)
+    (cond (ltb a 0xE0) (Some (code2 a b, 2))
     -- the third is no tail
-    (cond (ltb c 0x80) End
-    (cond (ltb 0xBF c) End
+    (cond (ltb c 0x80) None
+    (cond (ltb 0xBF c) None
     -- UTF8-3, which starts with E0 to EF
-    (cond (ltb a 0xF0) (Char (code3 a b c) 3)
+    (cond (ltb a 0xF0) (Some (code3 a b c, 3))
     -- the fourth is no tail
-    (cond (ltb d 0x80) End
-    (cond (ltb 0xBF d) End
+    (cond (ltb d 0x80) None
+    (cond (ltb 0xBF d) None
     -- UTF8-4, which starts with F0 to F4; no form starts with F5 to FF
-    (cond (ltb a 0xF5) (Char (code4 a b c d) 4)
-    End))))))))))
+    (cond (ltb a 0xF5) (Some (code4 a b c d, 4))
+    None))))))))))
 
 -- what a list of bytes starts with. Past the end `get_or` gives 0, which is no tail
-unfoldable pub sight : List ℕ → Sight
-sight [] = End
+unfoldable pub sight : List ℕ → Option (ℕ × ℕ)
+sight [] = None
 sight (a ∷ s) = lead (low a) (high a) a (get_or s 0 0) (get_or s 1 0) (get_or s 2 0)
 
-unfoldable pub sight_at : List ℕ → ℕ → Sight
+unfoldable pub sight_at : List ℕ → ℕ → Option (ℕ × ℕ)
 sight_at s at = sight (drop at s)
 
 -- UTF8-octets = *( UTF8-char ): the code points of the longest well_formed_lem front, after `k` bytes
 unfoldable pub chars_from : ℕ → List ℕ → List ℕ
 chars_from k [] = []
-chars_from zero (a ∷ s) = elim (sight (a ∷ s)) [ Char c w ↦ c ∷ chars_from (w - 1) s | End ↦ [] ]
+chars_from zero (a ∷ s) = elim (sight (a ∷ s)) [ Some (c, w) ↦ c ∷ chars_from (w - 1) s | None ↦ [] ]
 chars_from (suc k) (a ∷ s) = chars_from k s
 
 unfoldable pub chars : List ℕ → List ℕ
@@ -78,10 +74,10 @@ reach [] at = at
 reach (c ∷ cs) at = reach cs (at + width_of c)
 
 -- "NotUtf8: first byte of the first ill-formed sequence": where reading the front came to, if that is not the end
-abbrev pub verdict_at : ℕ → ℕ → Utf8
-verdict_at p n = cond (eqb p n) Valid (Bad p)
+abbrev pub verdict_at : ℕ → ℕ → Result Unit ℕ
+verdict_at p n = cond (eqb p n) (Ok tt) (Err p)
 
-abbrev pub verdict : List ℕ → Utf8
+abbrev pub verdict : List ℕ → Result Unit ℕ
 verdict s = verdict_at (reach (chars s) 0) (length s)
 
 -- "boundaries (a byte not 128 to 191, or the end)"

@@ -1,7 +1,6 @@
 -- What the first bytes of a character tell of it, where they need no closer look: that so many bytes are passed.
-use Rattle.std.specs.Prelude.{ℕ, ◌+◌, ◌≤◌, ◌<◌, List, ◌≡◌, refl, length, drop}
+use Rattle.std.specs.Prelude.{ℕ, ◌+◌, ◌≤◌, ◌<◌, List, ◌≡◌, refl, length, drop, Some}
 use Rattle.std.proofs.Common.{arith}
-use Rattle.utf8.specs.declared.Sight.TheVariants.{Char}
 use Rattle.utf8.specs.Utf8.{chars, code2, code3, high, lead, low, reach}
 use Rattle.utf8.specs.Laws.{Seen, reach_step}
 use Rattle.utf8.specs.Picks.{pick_ge, pick_lt, picks}
@@ -22,12 +21,12 @@ pub high-plain : (a : ℕ) → (a ≡ 0xED → ⊥) → (a ≡ 0xF4 → ⊥) →
 unfolding high
 high-plain a p q = search picks
 
-pub lead-two : (l h a b c d : ℕ) → 0xC2 ≤ a → a < 0xE0 → l ≤ b → b ≤ h → Char (code2 a b) 2 ≡ lead l h a b c d
+pub lead-two : (l h a b c d : ℕ) → 0xC2 ≤ a → a < 0xE0 → l ≤ b → b ≤ h → Some (code2 a b, 2) ≡ lead l h a b c d
 unfolding lead
 lead-two l h a b c d p q r t =
     pick_ge a 0x80 _ _ _ (omega arith) (pick_ge a 0xC2 _ _ _ p (pick_ge b l _ _ _ r (pick_ge h b _ _ _ t (pick_lt a 0xE0 _ _ _ q refl))))
 
-pub lead_three : (l h a b c d : ℕ) → 0xE1 ≤ a → a < 0xED → l ≤ b → b ≤ h → 0x80 ≤ c → c ≤ 0xBF → Char (code3 a b c) 3 ≡ lead l h a b c d
+pub lead_three : (l h a b c d : ℕ) → 0xE1 ≤ a → a < 0xED → l ≤ b → b ≤ h → 0x80 ≤ c → c ≤ 0xBF → Some (code3 a b c, 3) ≡ lead l h a b c d
 unfolding lead
 lead_three l h a b c d p q r t u v =
     pick_ge a 0x80 _ _ _ (omega arith)

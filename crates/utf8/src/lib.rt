@@ -3,30 +3,15 @@
 
 pub mod signs;
 
-ghost use Rattle.std.specs.Prelude.{◌≡◌, true, ◌≤◌, ◌<◌, length, get_or};
-ghost use Rattle.utf8.specs.declared.Utf8.TheVariants.{Valid};
+ghost use Rattle.std.specs.Prelude.{◌≡◌, true, ◌≤◌, ◌<◌, length, get_or, IfSome};
 ghost use Rattle.utf8.specs.Widths.{Passes};
 ghost use Rattle.utf8.specs.Utf8.{low, high, lead, sight_at, verdict, boundary};
-
-// What is seen at a place: a character, with its width in bytes, or that no well-formed one starts there.
-#[derive(Clone, Copy)]
-pub enum Sight {
-    Char { code: u32, width: usize },
-    End,
-}
-
-// Whether a text is well formed; if not, where its first ill-formed sequence starts.
-#[derive(Clone, Copy)]
-pub enum Utf8 {
-    Valid,
-    Bad(usize),
-}
 
 // The byte at a place, and 0 past the end.
 fn byte(s: &[u8], i: usize) -> u32
     ensures { result ≡ get_or s.now i 0 }
 {
-    if i < s.len() { s[i] as u32 } else { 0 }
+    s.get(i).map_or(0, |b| u32::from(*b))
 }
 
 // The least and the greatest second byte after the first byte a.
@@ -55,65 +40,59 @@ fn high_of(a: u32) -> u32
 }
 
 // The character that four bytes start with, whose second byte is from l to h.
-fn decode(l: u32, h: u32, a: u32, b: u32, c: u32, d: u32) -> Sight
+fn decode(l: u32, h: u32, a: u32, b: u32, c: u32, d: u32) -> Option<(u32, usize)>
     requires { (128 ≤ l) × (h ≤ 191) }
     ensures { result ≡ lead l h a b c d }
 {
     if a < 128 {
-        return Sight::Char { code: a, width: 1 };
+        return Some((a, 1));
     }
     if a < 194 {
-        return Sight::End;
+        return None;
     }
     if b < l {
-        return Sight::End;
+        return None;
     }
     if h < b {
-        return Sight::End;
+        return None;
     }
     if a < 224 {
-        return Sight::Char {
-            code: (a - 192) * 64 + (b - 128),
-            width: 2,
-        };
+        return Some(((a - 192) * 64 + (b - 128), 2));
     }
     if c < 128 {
-        return Sight::End;
+        return None;
     }
     if 191 < c {
-        return Sight::End;
+        return None;
     }
     if a < 240 {
-        return Sight::Char {
-            code: (a - 224) * 4096 + (b - 128) * 64 + (c - 128),
-            width: 3,
-        };
+        return Some(((a - 224) * 4096 + (b - 128) * 64 + (c - 128), 3));
     }
     if d < 128 {
-        return Sight::End;
+        return None;
     }
     if 191 < d {
-        return Sight::End;
+        return None;
     }
     if a < 245 {
-        return Sight::Char {
-            code: (a - 240) * 262144 + (b - 128) * 4096 + (c - 128) * 64 + (d - 128),
-            width: 4,
-        };
+        return Some((
+            (a - 240) * 262144 + (b - 128) * 4096 + (c - 128) * 64 + (d - 128),
+            4,
+        ));
     }
-    Sight::End
+    None
 }
 
-// What stands at a place.
-pub fn char_at(s: &[u8], at: usize) -> Sight
+// What is seen at a place: a character, with its width in bytes, or that no well-formed one starts there.
+pub fn char_at(s: &[u8], at: usize) -> Option<(u32, usize)>
     ensures { result ≡ sight_at s.now at }
 {
     if s.len() <= at {
-        return Sight::End;
+        return None;
     }
     let a = byte(s, at);
     if a < 128 {
-        return Sight::Char { code: a, width: 1 };
+        return Some((a, 1));
     }
     let b = byte(s, at + 1);
     let c = byte(s, at + 2);
@@ -123,83 +102,81 @@ pub fn char_at(s: &[u8], at: usize) -> Sight
 
 // Whether every byte is below 128: then s is well formed. One pass with no way out, which the compiler does 16 bytes at a time.
 fn ascii(s: &[u8]) -> bool
-    ensures { result ≡ true → verdict s.now ≡ Valid }
+    ensures { result ≡ true → verdict s.now ≡ (Ok tt) }
 {
     let mut m = true;
-    let mut i: usize = 0;
-    while i < s.len() {
-        m = m & (s[i] < 128);
-        i += 1;
+    for b in s {
+        m &= *b < 128;
     }
     m
 }
 
-// The width of the character at a place, where it has one of the commonest forms: one byte, two, or three that need no closer look. Else 0.
-fn width_at(s: &[u8], at: usize) -> usize
-    ensures { 0 < result → Passes s.now at result }
+// The width of the character at a place, where it has one of the commonest forms: one byte, two, or three that need no closer look.
+fn width_at(s: &[u8], at: usize) -> Option<usize>
+    ensures { IfSome result (λ w. (0 < w) × Passes s.now at w) }
 {
     if s.len() <= at {
-        return 0;
+        return None;
     }
     let a = s[at];
     if a < 128 {
-        return 1;
+        return Some(1);
     }
     if s.len() - at < 3 {
-        return 0;
+        return None;
     }
     let b = s[at + 1];
     if b < 128 {
-        return 0;
+        return None;
     }
     if 191 < b {
-        return 0;
+        return None;
     }
     if a <= 193 {
-        return 0;
+        return None;
     }
     if a < 224 {
-        return 2;
+        return Some(2);
     }
     let c = s[at + 2];
     if c < 128 {
-        return 0;
+        return None;
     }
     if 191 < c {
-        return 0;
+        return None;
     }
     if a < 225 {
-        return 0;
+        return None;
     }
     if a < 237 {
-        return 3;
+        return Some(3);
     }
-    0
+    None
 }
 
-// Whether s is well formed.
-pub fn check(s: &[u8]) -> Utf8
+// Whether a text is well formed; if not, where its first ill-formed sequence starts.
+pub fn check(s: &[u8]) -> Result<(), usize>
     ensures { result ≡ verdict s.now }
 {
     if ascii(s) {
-        return Utf8::Valid;
+        return Ok(());
     }
     let mut at = 0;
+    // a loop: the step is as wide as the character, which no iterator of the bytes gives
     loop {
-        let w = width_at(s, at);
-        if 0 < w {
+        if let Some(w) = width_at(s, at) {
             at += w;
-        } else {
-            match char_at(s, at) {
-                Sight::Char { code: _, width } => {
-                    at += width;
+            continue;
+        }
+        match char_at(s, at) {
+            Some((_, width)) => {
+                at += width;
+            }
+            None => {
+                if at == s.len() {
+                    return Ok(());
                 }
-                Sight::End => {
-                    if at == s.len() {
-                        return Utf8::Valid;
-                    }
-                    return Utf8::Bad(at);
-                }
+                return Err(at);
             }
         }
     }

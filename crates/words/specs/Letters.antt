@@ -1,14 +1,12 @@
 -- Words by their bytes: a word of letters below 128 has as many bytes as letters, and is spelt by them.
-use Rattle.std.specs.Prelude.{◌+◌, ◌-◌, ◌<◌, ◌≤◌, ℕ, Bool, ◌&&◌, cond, false, true, List, [], ◌∷◌, ◌≡◌, eqb, ltb, get_or, length}
-use Rattle.std.proofs.Common.{arith, ◌∙◌, ap, sym, eq-eqb, eqb-true, lt-ltb, ltb-false, ltb-true, ne_eqb}
+use Rattle.std.specs.Prelude.{suc, drop, take, bytes_eq, slice_range, ◌+◌, ◌-◌, ◌<◌, ◌≤◌, ℕ, Bool, ◌&&◌, cond, false, true, List, [], ◌∷◌, ◌≡◌, eqb, ltb, get_or, length, Option, Some, None}
+use Rattle.std.proofs.Common.{drop-cons, arith, ◌∙◌, ap, sym, eq-eqb, eqb-true, lt-ltb, ltb-false, ltb-true, ne_eqb}
 use Rattle.std.proofs.Math.Path.{refl}
 use Rattle.std.proofs.lemmas.Bool.{eqb-false}
 use Rattle.utf8.proofs.Laws.{seen}
 use Rattle.utf8.specs.Laws.{ended, sight_ascii, sight_in}
 use Rattle.utf8.specs.Picks.{by_test}
 use Rattle.utf8.specs.Utf8.{lead, sight_at, width_of}
-use Rattle.utf8.specs.declared.Sight.{Sight}
-use Rattle.utf8.specs.declared.Sight.TheVariants.{Char, End}
 use Rattle.record.specs.declared.Kind.{Kind}
 use Rattle.record.specs.declared.Kind.TheVariants.{Underscore}
 use Rattle.record.specs.declared.Reading.{Reading}
@@ -30,33 +28,33 @@ unfolding width_of
 width_one k h = rw (lt-ltb k 0x80 h)
 
 -- a first byte from 128 on starts a character of two bytes or more, or none
-abbrev WideIn : Sight → Type 0
-WideIn (Char k w) = 1 < w
-WideIn End = Unit {0}
+abbrev WideIn : Option (ℕ × ℕ) → Type 0
+WideIn (Some (k, w)) = 1 < w
+WideIn None = Unit {0}
 
-record Wide (x : Sight) : Type 0 where
+record Wide (x : Option (ℕ × ℕ)) : Type 0 where
   is : WideIn x
 
-wide_test : (t : Bool) (x y : Sight) → Wide x → Wide y → Wide (cond t x y)
+wide_test : (t : Bool) (x y : Option (ℕ × ℕ)) → Wide x → Wide y → Wide (cond t x y)
 wide_test true x y p q = p
 wide_test false x y p q = q
 
-wide-end : Wide End
+wide-end : Wide None
 wide-end = record { is = tt }
 
-wide_2 : (k : ℕ) → Wide (Char k 2)
+wide_2 : (k : ℕ) → Wide (Some (k, 2))
 wide_2 k = record { is = omega arith }
 
-wide_3 : (k : ℕ) → Wide (Char k 3)
+wide_3 : (k : ℕ) → Wide (Some (k, 3))
 wide_3 k = record { is = omega arith }
 
-wide_4 : (k : ℕ) → Wide (Char k 4)
+wide_4 : (k : ℕ) → Wide (Some (k, 4))
 wide_4 k = record { is = omega arith }
 
 lead-wide : (l h a b c d : ℕ) → 0x80 ≤ a → Wide (lead l h a b c d)
 unfolding lead
 lead-wide l h a b c d q =
-    by_test Wide (ltb a 0x80) (Char a 1) _ (λ t. absurd (omega (arith, ltb-true a 0x80 t))) (λ t. search (wide_test, wide-end, wide_2, wide_3, wide_4) depth 14)
+    by_test Wide (ltb a 0x80) (Some (a, 1)) _ (λ t. absurd (omega (arith, ltb-true a 0x80 t))) (λ t. search (wide_test, wide-end, wide_2, wide_3, wide_4) depth 14)
 
 wide_at : (s : List ℕ) (at : ℕ) → at < length s → 0x80 ≤ get_or s at 0 → Wide (sight_at s at)
 wide_at s at l q = rw (sight_in s at l) (lead-wide _ _ _ _ _ _ q)
@@ -66,13 +64,13 @@ pub spells_byte : (k : ℕ) (ks s : List ℕ) (at p : ℕ) → at < length s →
     → spells (k ∷ ks) (left s at) at p ≡ eqb (get_or s at 0) k && spells ks (left s (at + 1)) (at + 1) p
 spells_byte k ks s at p l a = go (ltb (get_or s at 0) 0x80) refl
   where
-    other : 0x80 ≤ get_or s at 0 → (x : Sight) → sight_at s at ≡ x → spells (k ∷ ks) (left s at) at p ≡ false
-    other q (Char c w) e =
+    other : 0x80 ≤ get_or s at 0 → (x : Option (ℕ × ℕ)) → sight_at s at ≡ x → spells (k ∷ ks) (left s at) at p ≡ false
+    other q (Some (c, w)) e =
         let h = seen s at c w e in
-        let v : Wide (Char c w) = rw e at (wide_at s at l q) in
+        let v : Wide (Some (c, w)) = rw e at (wide_at s at l q) in
         let i : 1 < w = v.is in
         spells-on k ks p h ∙ rw (ne_eqb c k (λ z. omega (arith, h.width, width_one c (omega arith))))
-    other q End e = spells-end k ks p (ended s at e)
+    other q None e = spells-end k ks p (ended s at e)
 
     go : (t : Bool) → ltb (get_or s at 0) 0x80 ≡ t → spells (k ∷ ks) (left s at) at p ≡ eqb (get_or s at 0) k && spells ks (left s (at + 1)) (at + 1) p
     go true t = spells-on k ks p (seen s at (get_or s at 0) 1 (sym (sight_ascii s at l (ltb-true _ _ t))))
@@ -86,7 +84,7 @@ spells-last k s at p l a e =
     sym (spells_byte k [] s at p l a ∙ ap (λ (d : Bool). eqb (get_or s at 0) k && d) (eq-eqb (at + 1) p (sym e)) ∙ and-true (eqb (get_or s at 0) k))
 
 -- a word has as many bytes as letters
-abbrev letters : List ℕ → Bool
+abbrev pub letters : List ℕ → Bool
 letters [] = true
 letters (k ∷ ks) = ltb k 0x80 && letters ks
 
@@ -109,15 +107,45 @@ spells-not ks l cs at p n = go (spells ks cs at p) refl
     go true q = absurd (n (spells-length ks l cs at p q))
     go false q = q
 
+range-on : (s : List ℕ) (at p : ℕ) → at < p → p ≤ length s → slice_range s at p ≡ get_or s at 0 ∷ slice_range s (at + 1) p
+range-on s at p h r =
+    let q : p - at ≡ suc (p - (at + 1)) = omega arith in
+    let u : suc at ≡ at + 1 = omega arith in
+    rw (drop-cons s at 0 (omega arith), q, take, u)
+
+-- a word's letters are its bytes
+pub spells_bytes : (ks s : List ℕ) (at p : ℕ) → letters ks ≡ true → at ≤ p → p ≤ length s → bytes_eq (slice_range s at p) ks ≡ spells ks (left s at) at p
+unfolding spells
+spells_bytes [] s at p l h r = go (eqb at p) refl
+  where
+    go : (t : Bool) → eqb at p ≡ t → bytes_eq (slice_range s at p) [] ≡ eqb at p
+    go true t = let q : p - at ≡ 0 = omega (arith, eqb-true at p t) in rw (q, t)
+    go false t = let n : at ≡ p → ⊥ = eqb-false at p t in rw (range-on s at p (omega arith) r, t)
+spells_bytes (k ∷ ks) s at p l h r = go (eqb at p) refl (λ a i. spells_bytes ks s (at + 1) p a (omega (arith, i)) r)
+  where
+    go : (t : Bool) → eqb at p ≡ t
+        → (letters ks ≡ true → at < p → bytes_eq (slice_range s (at + 1) p) ks ≡ spells ks (left s (at + 1)) (at + 1) p)
+        → bytes_eq (slice_range s at p) (k ∷ ks) ≡ spells (k ∷ ks) (left s at) at p
+    go true t f =
+        let q : p - at ≡ 0 = omega (arith, eqb-true at p t) in
+        rw q (sym (spells-not (k ∷ ks) l (left s at) at p (λ z. omega (arith, eqb-true at p t))))
+    go false t f =
+        let n : at ≡ p → ⊥ = eqb-false at p t in
+        let i : at < p = omega arith in
+        let a = both (ltb k 0x80) (letters ks) l in
+        rw (range-on s at p i r)
+        (ap (λ (d : Bool). eqb (get_or s at 0) k && d) (f a.1 i)
+        ∙ sym (spells_byte k ks s at p (omega arith) (ltb-true k 0x80 a.0)))
+
 -- a word stands in the text
 spells-step : (k : ℕ) (ks s : List ℕ) (at p : ℕ) → spells (k ∷ ks) (left s at) at p ≡ true → (w : ℕ) × (at + w ≤ length s) × (spells ks (left s (at + w)) (at + w) p ≡ true)
 spells-step k ks s at p e = go (sight_at s at) refl
   where
-    go : (x : Sight) → sight_at s at ≡ x → (w : ℕ) × (at + w ≤ length s) × (spells ks (left s (at + w)) (at + w) p ≡ true)
-    go (Char c w) q =
+    go : (x : Option (ℕ × ℕ)) → sight_at s at ≡ x → (w : ℕ) × (at + w ≤ length s) × (spells ks (left s (at + w)) (at + w) p ≡ true)
+    go (Some (c, w)) q =
         let h = seen s at c w q in
         (w, h.room, (both (eqb c k) (spells ks (left s (at + w)) (at + w) p) (sym (spells-on k ks p h) ∙ e)).1)
-    go End q = let u : false ≡ true = sym (spells-end k ks p (ended s at q)) ∙ e in let z : ◌≡◌ {A = ℕ} 0 1 = cc in absurd (omega arith)
+    go None q = let u : false ≡ true = sym (spells-end k ks p (ended s at q)) ∙ e in let z : ◌≡◌ {A = ℕ} 0 1 = cc in absurd (omega arith)
 
 spells_past : (k : ℕ) (ks s : List ℕ) (at p : ℕ) → spells (k ∷ ks) (left s at) at p ≡ true → p ≤ length s
 unfolding spells

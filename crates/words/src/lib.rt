@@ -3,7 +3,8 @@
 
 pub mod quotes;
 
-ghost use Rattle.std.specs.Prelude.{◌+◌, ◌<◌, ◌≤◌, [], ◌∷◌, ◌≡◌, length};
+ghost use Rattle.std.specs.Prelude.{◌+◌, ◌≤◌, ◌≡◌, true, length};
+ghost use Rattle.words.specs.Letters.{letters};
 ghost use Rattle.record.specs.declared.Reading.{Reading};
 ghost use Rattle.scan.specs.Until.{left};
 ghost use Rattle.reading.specs.Words.{spells, id_token, code_token, use_token, word_token};
@@ -13,54 +14,12 @@ use record::{Kind, Reading};
 use scan::{Deep, Skip};
 use utf8::signs;
 
-// Whether the characters from a place up to the place p are those of a word, letter by letter: its bytes, of which there are as many.
-fn one(s: &[u8], at: usize, p: usize, a: u8) -> bool
-    requires { (p ≡ at + 1) × (p ≤ length s.now) × (a < 128) }
-    ensures { result ≡ spells (a ∷ []) (left s.now at) at p }
+// Whether the characters from a place up to the place p are those of a word of letters below 128: its bytes, of which there are as many.
+fn spelled<'a>(s: &'a [u8], at: usize, p: usize, word: &'a [u8]) -> bool
+    requires { (at ≤ p) × (p ≤ length s.now) × (letters word.now ≡ true) }
+    ensures { result ≡ spells word.now (left s.now at) at p }
 {
-    s[at] == a
-}
-
-fn two(s: &[u8], at: usize, p: usize, a: u8, b: u8) -> bool
-    requires { (p ≡ at + 2) × (p ≤ length s.now) × (a < 128) × (b < 128) }
-    ensures { result ≡ spells (a ∷ b ∷ []) (left s.now at) at p }
-{
-    (s[at] == a) & one(s, at + 1, p, b)
-}
-
-fn three(s: &[u8], at: usize, p: usize, a: u8, b: u8, c: u8) -> bool
-    requires { (p ≡ at + 3) × (p ≤ length s.now) × (a < 128) × (b < 128) × (c < 128) }
-    ensures { result ≡ spells (a ∷ b ∷ c ∷ []) (left s.now at) at p }
-{
-    (s[at] == a) & two(s, at + 1, p, b, c)
-}
-
-fn four(s: &[u8], at: usize, p: usize, a: u8, b: u8, c: u8, d: u8) -> bool
-    requires { (p ≡ at + 4) × (p ≤ length s.now) × (a < 128) × (b < 128) × (c < 128) × (d < 128) }
-    ensures { result ≡ spells (a ∷ b ∷ c ∷ d ∷ []) (left s.now at) at p }
-{
-    (s[at] == a) & three(s, at + 1, p, b, c, d)
-}
-
-fn five(s: &[u8], at: usize, p: usize, a: u8, b: u8, c: u8, d: u8, e: u8) -> bool
-    requires { (p ≡ at + 5) × (p ≤ length s.now) × (a < 128) × (b < 128) × (c < 128) × (d < 128) × (e < 128) }
-    ensures { result ≡ spells (a ∷ b ∷ c ∷ d ∷ e ∷ []) (left s.now at) at p }
-{
-    (s[at] == a) & four(s, at + 1, p, b, c, d, e)
-}
-
-fn six(s: &[u8], at: usize, p: usize, a: u8, b: u8, c: u8, d: u8, e: u8, f: u8) -> bool
-    requires { (p ≡ at + 6) × (p ≤ length s.now) × (a < 128) × (b < 128) × (c < 128) × (d < 128) × (e < 128) × (f < 128) }
-    ensures { result ≡ spells (a ∷ b ∷ c ∷ d ∷ e ∷ f ∷ []) (left s.now at) at p }
-{
-    (s[at] == a) & five(s, at + 1, p, b, c, d, e, f)
-}
-
-fn seven(s: &[u8], at: usize, p: usize, a: u8, b: u8, c: u8, d: u8, e: u8, f: u8, g: u8) -> bool
-    requires { (p ≡ at + 7) × (p ≤ length s.now) × (a < 128) × (b < 128) × (c < 128) × (d < 128) × (e < 128) × (f < 128) × (g < 128) }
-    ensures { result ≡ spells (a ∷ b ∷ c ∷ d ∷ e ∷ f ∷ g ∷ []) (left s.now at) at p }
-{
-    (s[at] == a) & six(s, at + 1, p, b, c, d, e, f, g)
+    &s[at..p] == word
 }
 
 // No keyword: a macro's name if `<` follows at once.
@@ -74,24 +33,20 @@ fn id_token(s: &[u8], o: usize, p: usize) -> Call
 }
 
 // A token that takes code from a place on: up to where the code ends.
-pub fn code_token(kind: Kind, o: usize, from: usize, x: Deep) -> Call
-    ensures { result ≡ code_token kind o from x.skip x.depth }
+pub fn code_token(kind: Kind, o: usize, from: usize, x: Deep<Skip>) -> Call
+    ensures { result ≡ code_token kind o from x.what x.depth }
 {
     let d = x.depth;
-    let skip = x.skip;
+    let skip = x.what;
     match skip {
-        Skip::Past(p, m) => {
+        Ok((p, m)) => {
             let y = reading::deliver(kind, o, from, p, p, m);
-            let w = y.what;
             Call {
-                what: w,
-                at: y.at,
-                advances: y.advances,
-                gap_depth: y.gap_depth,
                 code_depth: d as u64,
+                ..y
             }
         }
-        Skip::Lost(r, p, m) => reading::fail(r, p, m),
+        Err((r, p, m)) => reading::fail(r, p, m),
     }
 }
 
@@ -106,7 +61,7 @@ fn word_1(s: &[u8], o: usize, p: usize) -> Call
     requires { (p ≡ o + 1) × (p ≤ length s.now) }
     ensures { (rd : Reading) → result ≡ word_token rd (left s.now o) o (left s.now p) p }
 {
-    if one(s, o, p, b'_') {
+    if spelled(s, o, p, b"_") {
         return reading::plain(Kind::Underscore, o, p, 0);
     }
     id_token(s, o, p)
@@ -116,10 +71,10 @@ fn word_2(s: &[u8], o: usize, p: usize) -> Call
     requires { (p ≡ o + 2) × (p ≤ length s.now) }
     ensures { (rd : Reading) → result ≡ word_token rd (left s.now o) o (left s.now p) p }
 {
-    if two(s, o, p, b'i', b'f') {
+    if spelled(s, o, p, b"if") {
         return reading::plain(Kind::If, o, p, 0);
     }
-    if two(s, o, p, b'i', b'n') {
+    if spelled(s, o, p, b"in") {
         return reading::plain(Kind::In, o, p, 0);
     }
     id_token(s, o, p)
@@ -129,22 +84,22 @@ fn word_3(s: &[u8], rd: Reading, o: usize, p: usize) -> Call
     requires { (p ≡ o + 3) × (p ≤ length s.now) }
     ensures { result ≡ word_token rd (left s.now o) o (left s.now p) p }
 {
-    if three(s, o, p, b'r', b'#', b'_') {
+    if spelled(s, o, p, b"r#_") {
         return reading::plain(Kind::Underscore, o, p, 0);
     }
-    if three(s, o, p, b'u', b's', b'e') {
+    if spelled(s, o, p, b"use") {
         return use_token(s, rd, o, p);
     }
-    if three(s, o, p, b'm', b'u', b't') {
+    if spelled(s, o, p, b"mut") {
         return reading::plain(Kind::Mut, o, p, 0);
     }
-    if three(s, o, p, b'p', b'u', b'b') {
+    if spelled(s, o, p, b"pub") {
         return reading::plain(Kind::Pub, o, p, 0);
     }
-    if three(s, o, p, b'f', b'o', b'r') {
+    if spelled(s, o, p, b"for") {
         return reading::plain(Kind::For, o, p, 0);
     }
-    if three(s, o, p, b'd', b'y', b'n') {
+    if spelled(s, o, p, b"dyn") {
         return reading::plain(Kind::Dyn, o, p, 0);
     }
     id_token(s, o, p)
@@ -154,13 +109,13 @@ fn word_4(s: &[u8], o: usize, p: usize) -> Call
     requires { (p ≡ o + 4) × (p ≤ length s.now) }
     ensures { (rd : Reading) → result ≡ word_token rd (left s.now o) o (left s.now p) p }
 {
-    if four(s, o, p, b'e', b'n', b'u', b'm') {
+    if spelled(s, o, p, b"enum") {
         return reading::plain(Kind::Enum, o, p, 0);
     }
-    if four(s, o, p, b'e', b'l', b's', b'e') {
+    if spelled(s, o, p, b"else") {
         return reading::plain(Kind::Else, o, p, 0);
     }
-    if four(s, o, p, b't', b'y', b'p', b'e') {
+    if spelled(s, o, p, b"type") {
         return reading::plain(Kind::Type, o, p, 0);
     }
     id_token(s, o, p)
@@ -170,10 +125,10 @@ fn word_5(s: &[u8], o: usize, p: usize) -> Call
     requires { (p ≡ o + 5) × (p ≤ length s.now) }
     ensures { (rd : Reading) → result ≡ word_token rd (left s.now o) o (left s.now p) p }
 {
-    if five(s, o, p, b'm', b'a', b't', b'c', b'h') {
+    if spelled(s, o, p, b"match") {
         return reading::plain(Kind::Match, o, p, 0);
     }
-    if five(s, o, p, b'w', b'h', b'e', b'r', b'e') {
+    if spelled(s, o, p, b"where") {
         return reading::plain(Kind::Where, o, p, 0);
     }
     id_token(s, o, p)
@@ -183,7 +138,7 @@ fn word_6(s: &[u8], o: usize, p: usize) -> Call
     requires { (p ≡ o + 6) × (p ≤ length s.now) }
     ensures { (rd : Reading) → result ≡ word_token rd (left s.now o) o (left s.now p) p }
 {
-    if six(s, o, p, b'e', b'x', b't', b'e', b'r', b'n') {
+    if spelled(s, o, p, b"extern") {
         return reading::plain(Kind::Extern, o, p, 0);
     }
     id_token(s, o, p)
@@ -193,7 +148,7 @@ fn word_7(s: &[u8], o: usize, p: usize) -> Call
     requires { (p ≡ o + 7) × (p ≤ length s.now) }
     ensures { (rd : Reading) → result ≡ word_token rd (left s.now o) o (left s.now p) p }
 {
-    if seven(s, o, p, b'g', b'r', b'a', b'm', b'm', b'a', b'r') {
+    if spelled(s, o, p, b"grammar") {
         return reading::plain(Kind::Grammar, o, p, 0);
     }
     id_token(s, o, p)

@@ -2,23 +2,22 @@
 ghost use Rattle.std.specs.Prelude.{◌≡◌, ℕ, ◌<◌};
 ghost use Rattle.scan.specs.Until.{left};
 ghost use Rattle.scan.specs.Seek.{seek};
-ghost use Rattle.scan.specs.declared.Found.TheVariants.{At};
 ghost use Rattle.scan.specs.declared.Sought.TheVariants.{Word};
 ghost use Rattle.reading.specs.Quotes.{string_or_char_literal, escape, string_literal, char_literal, lifetime_by, lifetimeish};
 
 use reading::Call;
 use record::{Code, Kind};
 use scan::{Found, Sought, is_next};
-use utf8::{Sight, signs};
+use utf8::signs;
 
 // What stands from at to its closing mark is the payload.
 fn string_or_char_literal(kind: Kind, code: Code, o: usize, at: usize, found: Found) -> Call
-    requires { (p m : ℕ) → found ≡ At p m → (p < 18446744073709551615) × (m < 18446744073709551615) }
+    requires { (p m : ℕ) → found ≡ Ok (p, m) → (p < 18446744073709551615) × (m < 18446744073709551615) }
     ensures { result ≡ string_or_char_literal kind code o at found }
 {
     match found {
-        Found::At { place, passed } => reading::deliver(kind, o, at, place, place + 1, passed + 1),
-        Found::Nothing { place, passed } => reading::refuse(code, o, place, passed),
+        Ok((place, passed)) => reading::deliver(kind, o, at, place, place + 1, passed + 1),
+        Err((place, passed)) => reading::refuse(code, o, place, passed),
     }
 }
 
@@ -63,16 +62,13 @@ fn lifetime(s: &[u8], o: usize, at: usize) -> Call
     ensures { result ≡ lifetime_by o (left s.now at) at (seek Word (left s.now at) at) }
 {
     match scan::word(s, at) {
-        Found::At { place, passed } => {
+        Ok((place, passed)) => {
             if is_next(s, place, signs::QUOTE) {
                 return reading::deliver(Kind::CharLiteral, o, at, place, place + 1, passed + 1);
             }
             reading::deliver(Kind::Lifetime, o, o, place, place, passed)
         }
-        Found::Nothing {
-            place: p,
-            passed: m,
-        } => reading::deliver(Kind::Lifetime, o, o, p, p, m),
+        Err((p, m)) => reading::deliver(Kind::Lifetime, o, o, p, p, m),
     }
 }
 
@@ -80,12 +76,12 @@ pub fn lifetimeish(s: &[u8], o: usize, at: usize) -> Call
     ensures { result ≡ lifetimeish o (left s.now at) at }
 {
     match utf8::char_at(s, at) {
-        Sight::Char { code, width: _ } => {
+        Some((code, _)) => {
             if unicode_xid::is_identifier_start(code) {
                 return lifetime(s, o, at);
             }
             char_literal(s, o, at)
         }
-        Sight::End => reading::refuse(Code::UnterminatedCharacterLiteral, o, at, 0),
+        None => reading::refuse(Code::UnterminatedCharacterLiteral, o, at, 0),
     }
 }

@@ -1,10 +1,7 @@
-use Rattle.std.proofs.Common.{◌-◌, length}
-use Rattle.lent.specs.Steps.{fitting}
-use Rattle.lent.proofs.Copying.{Inv}
+use Rattle.std.proofs.Common.{◌≡◌, take}
+use Rattle.std.proofs.lemmas.List.Edits.{sets}
+use Rattle.run.specs.Numbers.{numbers_all}
 use Rattle.lent.proofs.copy_first.Given as goal
 
-abbrev pub invariant-loop-p : goal.invariant-loop-p
-invariant-loop-p l = Inv l.list (fitting l.count (length l.initial.records)) l.initial.records l.p l.records
-
-abbrev pub decreases-loop-p : goal.decreases-loop-p
-decreases-loop-p l = fitting l.count (length l.initial.records) - l.p.at
+abbrev pub invariant-loop-i : goal.invariant-loop-i
+invariant-loop-i l = l.records ≡ sets l.initial.records 0 (numbers_all (take l.i l.t-items))

@@ -1,0 +1,16 @@
+use Rattle.std.proofs.Common.{◌≡◌, ◌-◌, arith, eq-eqb, ne_eqb, length, take, drop, take_all, length-drop}
+use Rattle.property.specs.Lines.{last_of}
+use Rattle.property.proofs.line.with_last.Goals as goal
+
+pub returns-in-Some : goal.returns-in-Some
+unfolding last_of
+returns-in-Some c =
+    let s = c.args.s.now in
+    let h = c.in-Some.ensures in
+    let d = c.in-Some.h.digits in
+    let t : take (length s - d) (drop d s) ≡ drop d s = take_all _ _ (omega (arith, length-drop d s)) in
+    rw (← h.0, ne_eqb d 0 (λ e. omega (arith, h, e))) (rw t at c.with_name.ensures)
+
+pub returns-in-None : goal.returns-in-None
+unfolding last_of
+returns-in-None c = rw (eq-eqb _ 0 c.in-None.ensures)

@@ -1,0 +1,2 @@
+-- laws that the code cites
+pub mod Counts

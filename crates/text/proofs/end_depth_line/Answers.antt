@@ -1,0 +1,8 @@
+use Rattle.text.specs.Bytes.{bytes, join}
+use Rattle.text.specs.Lines.{end_depth_line}
+use Rattle.text.specs.Pieces.{all_bytes, phrase, phrases}
+use Rattle.text.proofs.end_depth_line.Goals as goal
+
+pub returns : goal.returns
+unfolding all_bytes bytes join phrase phrases end_depth_line
+returns c = c.compose.ensures

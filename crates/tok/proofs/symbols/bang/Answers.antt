@@ -1,0 +1,8 @@
+use Rattle.std.proofs.Common.{ap, ◌∙◌}
+use Rattle.scan.specs.IfNext.{if_next}
+use Rattle.reading.specs.Symbols.{bang}
+use Rattle.tok.proofs.symbols.bang.Goals as goal
+
+pub returns : goal.returns
+unfolding bang
+returns c = c.mark.ensures ∙ ap (if_next _ _ _) (c.mark-other.ensures ∙ ap (if_next _ _ _) c.plain.ensures)

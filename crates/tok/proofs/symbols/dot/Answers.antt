@@ -1,0 +1,8 @@
+use Rattle.std.proofs.Common.{ap, ◌∙◌}
+use Rattle.scan.specs.IfNext.{if_next}
+use Rattle.reading.specs.Symbols.{dot}
+use Rattle.tok.proofs.symbols.dot.Goals as goal
+
+pub returns : goal.returns
+unfolding dot
+returns c = c.mark.ensures ∙ ap (if_next _ _ _) c.half.ensures
