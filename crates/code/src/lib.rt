@@ -304,7 +304,8 @@ fn code_run<'a>(stops: &'a [u8], s: &'a [u8], from: usize) -> usize
     scan::runs::run(s, from, |x| stops[usize::from(x)] != b'.')
 }
 
-// The loop of `code`, with a table of all bytes: a dot for each one that changes nothing. A loop: a turn goes on where its reader ends.
+// The loop of `code`, with a table of all bytes: a dot for each one that changes nothing. A loop: a turn goes on where its reader ends. Its turn,
+// its state and its end are its own: one walk over closures would ask every caller for as many clauses as this loop has.
 fn code_by<'a>(stops: &'a [u8], s: &'a [u8], rd: Reading, at: usize, start: usize) -> Deep<Skip>
     requires { stops.now ≡ code_stops }
     ensures { (result.what ≡ code_end rd start (chars (drop at s.now)) at) × (result.depth ≡ code_depth_of rd (chars (drop at s.now)) at) }

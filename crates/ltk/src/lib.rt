@@ -33,7 +33,7 @@ fn byte(s: &[u8], i: usize) -> u64
     s.get(i).copied().map_or(0, u64::from)
 }
 
-// The number of two bytes, the little end first.
+// The number of two bytes, the little end first. A byte past the end counts as 0, as `number_at` says, so `from_le_bytes` has no bytes to take.
 fn number2(s: &[u8], p: usize) -> u64
     requires { p < 9223372036854775808 }
     ensures { (result ≡ number_at 2 s.now p) × (result < 65536) }

@@ -12,12 +12,12 @@ use Rattle.numbers.specs.Promised.{Tells, tells}
 use Rattle.numbers.specs.Same.{code-some, refusal-same}
 use Rattle.numbers.specs.Values.{no_refusal, refusal_numbers, what_numbers}
 
--- `utf8::Utf8`: "11, NotUtf8: first byte of the first ill-formed sequence"
+-- of `utf8::check`: "11, NotUtf8: first byte of the first ill-formed sequence"
 abbrev pub utf8_numbers : Result Unit ℕ → List ℕ
 utf8_numbers (Ok tt) = no_refusal
 utf8_numbers (Err p) = 11 ∷ p ∷ []
 
--- `utf8::Sight`: the character and its width in bytes
+-- of `utf8::char_at`: the character and its width in bytes
 abbrev pub sight_numbers : Option (ℕ × ℕ) → List ℕ
 sight_numbers (Some (c, w)) = c ∷ w ∷ []
 sight_numbers None = []

@@ -1,5 +1,5 @@
 -- Nothing is lost by the numbers: no two answers have the same.
--- That of `escapes::Expanded` stands in proofs/Same.antt.
+-- That of an expansion stands in proofs/Same.antt.
 use Rattle.std.specs.Prelude.{ℕ, List, [], ◌++◌, ◌≡◌, refl, Option, Some, None, Result, Ok, Err}
 use Rattle.std.proofs.Common.{arith, append-nil, sym, ap, ◌∙◌}
 use Rattle.record.specs.Numbers.{code_again, code_number, code_of, codes, kind_again, kind_number, kind_of}

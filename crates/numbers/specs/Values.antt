@@ -28,7 +28,7 @@ refusal_numbers r = code_number r.code ∷ r.place ∷ []
 abbrev pub no_refusal : List ℕ
 no_refusal = 0 ∷ 0 ∷ []
 
--- `record::Told`, what a record tells besides: 1 and the number where it is known
+-- what a record tells besides: 1 and the number where it is known
 abbrev pub told_numbers : Option ℕ → List ℕ
 told_numbers (Some n) = 1 ∷ n ∷ []
 told_numbers None = 0 ∷ 0 ∷ []
@@ -56,22 +56,22 @@ how_code how = get_or (outcome_numbers how) 0 0
 abbrev pub how_place : Outcome → ℕ
 how_place how = get_or (outcome_numbers how) 1 0
 
--- `record::Checked`, a check
+-- of a check
 abbrev pub checked_numbers : Result Unit Refusal → List ℕ
 checked_numbers (Ok tt) = no_refusal
 checked_numbers (Err r) = refusal_numbers r
 
--- `record::Known`, the kind that has a number: that number
+-- the kind that has a number: that number
 abbrev pub known_numbers : Option Kind → List ℕ
 known_numbers (Some k) = kind_number k ∷ []
 known_numbers None = []
 
--- `record::Chosen`, by the reading's number
+-- the reading that was chosen, by its number
 abbrev pub chosen_numbers : Option Reading → List ℕ
 chosen_numbers (Some rd) = reading_number rd ∷ []
 chosen_numbers None = []
 
--- `escapes::Expanded`, an expansion: the slice that holds it (0 the text, 1 the buffer), its start and its end
+-- an expansion: the slice that holds it (0 the text, 1 the buffer), its start and its end
 abbrev pub held_number : Held → ℕ
 held_number Text = 0
 held_number Buffer = 1
@@ -80,22 +80,22 @@ abbrev pub expanded_numbers : Result Part Refusal → List ℕ
 expanded_numbers (Ok p) = no_refusal ++ (held_number p.held ∷ p.start ∷ p.end ∷ [])
 expanded_numbers (Err r) = refusal_numbers r ++ (0 ∷ 0 ∷ 0 ∷ [])
 
--- `place::Reported`, of the reporter: line and column
+-- of the place reporter: line and column
 abbrev pub reported_numbers : Result Place Refusal → List ℕ
 reported_numbers (Ok p) = no_refusal ++ (p.line ∷ p.column ∷ [])
 reported_numbers (Err r) = refusal_numbers r ++ (0 ∷ 0 ∷ [])
 
--- `place::Located`, of the way back: the place
+-- of the way back: the place
 abbrev pub located_numbers : Result ℕ Refusal → List ℕ
 located_numbers (Ok p) = no_refusal ++ (p ∷ [])
 located_numbers (Err r) = refusal_numbers r ++ (0 ∷ [])
 
--- `ltk::Answer`, of the LTK reader and writer: how many records were read, or bytes written
+-- of the LTK reader and writer: how many records were read, or bytes written
 abbrev pub answer_numbers : Result ℕ Refusal → List ℕ
 answer_numbers (Ok n) = no_refusal ++ (n ∷ [])
 answer_numbers (Err r) = refusal_numbers r ++ (0 ∷ [])
 
--- `ltk::Found`, one record of a file
+-- one record of a file
 abbrev pub found_numbers : Option Token → List ℕ
 found_numbers (Some t) = token_numbers t
 found_numbers None = []

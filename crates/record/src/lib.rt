@@ -211,7 +211,7 @@ const KINDS: [Kind; 54] = [
     Kind::ShebangAttribute,
 ];
 
-// The kind of a number.
+// The kind of a number. RULES names this contract; a TryFrom beside it would say the same again.
 pub fn kind_of(n: u8) -> Option<Kind>
     ensures { result ≡ kind_of n }
 {
@@ -221,7 +221,7 @@ pub fn kind_of(n: u8) -> Option<Kind>
     Some(KINDS[n as usize])
 }
 
-// The reading of a number.
+// The reading of a number, likewise.
 pub fn reading_of(n: u64) -> Option<Reading>
     ensures { result ≡ reading_of n }
 {

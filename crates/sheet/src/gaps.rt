@@ -7,7 +7,7 @@ use crate::Gap;
 use scan::Turn;
 use utf8::signs;
 
-// A gap of any kind. A loop: a turn goes on where its reader ends.
+// A gap of any kind. A loop for the reason that `code` has.
 fn apart_far(s: &[u8], from: usize) -> Gap
     ensures { result ≡ apart (left s.now from) from }
 {

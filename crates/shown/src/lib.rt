@@ -1,4 +1,4 @@
-// What the programs of stored runs print with: words, numbers, what was put into a buffer, refusals; and in `page` what becomes of a sheet.
+// What the programs of examples print with: words, numbers, what was put into a buffer, refusals; and in `page` what becomes of a sheet.
 #![tactic(auto)]
 
 pub mod page;

@@ -32,7 +32,7 @@ fn held_number(held: Held) -> u64
     }
 }
 
-// A refusal's number.
+// A refusal's number, as C has it: a From could stand only in `record`.
 fn number_of(r: Refusal) -> u64
     ensures { result ≡ code_number r.code }
 {

@@ -11,7 +11,7 @@ use sheet::Taken;
 // 01's number of a refusal for want of room.
 const NO_ROOM: u64 = 14;
 
-// A refusal's number.
+// A refusal's number, as C has it: a From could stand only in `record`. An archive has what it links alone, so it stands here once more.
 fn number_of(r: Refusal) -> u64
     ensures { result ≡ code_number r.code }
 {

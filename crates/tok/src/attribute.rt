@@ -50,7 +50,7 @@ fn attribute_run(s: &[u8], from: usize) -> usize
     scan::runs::run(s, from, |x| ends_plain(x))
 }
 
-// Where the body of an attempt stops, after `#![`. A loop: a turn goes on where its reader ends.
+// Where the body of an attempt stops, after `#![`. A loop for the reason that `code` has.
 fn body_end(s: &[u8], from: usize) -> Skip
     ensures { result ≡ walk attribute_turn attribute_last 1 (left s.now from) from }
 {

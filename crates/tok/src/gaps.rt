@@ -74,7 +74,13 @@ pub fn gap_turn(s: &[u8], at: usize, next: usize, c: u32) -> Deep<Turn>
 fn ends_space(x: u8) -> bool
     ensures { result ≡ gap_stop x }
 {
-    (128 <= x) || !unicode_xid::is_whitespace(u32::from(x))
+    if 128 <= x {
+        return true;
+    }
+    if unicode_xid::is_whitespace(u32::from(x)) {
+        return false;
+    }
+    true
 }
 
 // Where the bytes below 128 from a place end that are white space: for speed alone.
@@ -95,7 +101,7 @@ fn is_over(s: &[u8], at: usize) -> bool
     (x < 128) & (x != b'/')
 }
 
-// A gap of any kind. A loop: a turn goes on where its reader ends.
+// A gap of any kind. A loop for the reason that `code` has.
 fn gap_far(s: &[u8], from: usize) -> Deep<Skip>
     ensures { (result.what ≡ gap (left s.now from) from) × (result.depth ≡ gap_depth_of (left s.now from) from) }
 {
