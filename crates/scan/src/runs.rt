@@ -8,7 +8,7 @@ use crate::Sought;
 use utf8::signs;
 
 // Up to the first byte from a place that a test stops at, or to the end: every run of the readers is this one, with a test of its own. A `for` over
-// the places took 31.5 instructions a byte of beside/bench's real grammar, where this takes 31.1.
+// the places took 1 % more instructions on beside/bench's real grammar.
 pub fn run<F: Fn(u8) -> bool>(s: &[u8], from: usize, stop: F) -> usize
     requires { F.IsAlwaysCallable stop }
     ensures { (p : ℕ → Bool) → Tells p (F.post stop) → result ≡ from + run p (drop from s.now) }
