@@ -2,7 +2,7 @@
 // come there, as the ledger counts them.
 #![tactic(auto)]
 
-ghost use Rattle.std.specs.Prelude.{◌≡◌, ◌≤◌, ◌+◌, ◌-◌, ◌<◌, length, drop};
+ghost use Rattle.std.specs.Prelude.{◌≡◌, ◌≤◌, ◌+◌, ◌-◌, ◌<◌, drop};
 ghost use Rattle.utf8.specs.Utf8.{chars};
 ghost use Rattle.record.specs.Records.{refusal};
 ghost use Rattle.utf8.specs.Chars.{'/};
@@ -15,6 +15,7 @@ ghost use Rattle.code.specs.Stops.{class_stop, code_stops};
 ghost use Rattle.code.specs.Code.{slash_skip, quote_last, quote_end, one_skip, esc_skip, quote_skip, regex_start, closing_hashes, body_skip, hash_skip, r_skip, opens, closes, code_turn, code_end, code_depth_of};
 
 use record::{Code, Reading, Refusal};
+use scan::runs::Stop;
 use scan::{Deep, Found, Skip, Sought, Turn};
 use utf8::signs;
 
@@ -296,17 +297,36 @@ fn turn(s: &[u8], rd: Reading, at: usize, next: usize, c: u32, b: usize) -> Deep
     }
 }
 
+// A byte that has no dot in the table.
+#[derive(Clone, Copy)]
+struct NotDot<'a> {
+    table: &'a [u8; 256],
+}
+
+impl<'a> Stop for NotDot<'a> {
+    ghost stops = { λ o. class_stop o.table.now };
+
+    fn stops(&self, x: u8) -> bool {
+        self.table[usize::from(x)] != b'.'
+    }
+}
+
 // Up to a byte that has no dot in the table: for speed alone. What a run is, is said by `run`.
-fn code_run<'a>(stops: &'a [u8], s: &'a [u8], from: usize) -> usize
-    requires { length stops.now ≡ 256 }
+fn code_run<'a>(stops: &'a [u8; 256], s: &'a [u8], from: usize) -> usize
     ensures { result ≡ from + run (class_stop stops.now) (drop from s.now) }
 {
-    scan::runs::run(s, from, |x| stops[usize::from(x)] != b'.')
+    scan::runs::run(s, from, NotDot { table: stops })
 }
 
 // The loop of `code`, with a table of all bytes: a dot for each one that changes nothing. A loop: a turn goes on where its reader ends. Its turn,
 // its state and its end are its own: one walk over closures would ask every caller for as many clauses as this loop has.
-fn code_by<'a>(stops: &'a [u8], s: &'a [u8], rd: Reading, at: usize, start: usize) -> Deep<Skip>
+fn code_by<'a>(
+    stops: &'a [u8; 256],
+    s: &'a [u8],
+    rd: Reading,
+    at: usize,
+    start: usize,
+) -> Deep<Skip>
     requires { stops.now ≡ code_stops }
     ensures { (result.what ≡ code_end rd start (chars (drop at s.now)) at) × (result.depth ≡ code_depth_of rd (chars (drop at s.now)) at) }
 {

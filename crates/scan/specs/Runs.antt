@@ -23,10 +23,6 @@ unfoldable pub run : (ℕ → Bool) → List ℕ → ℕ
 run stop [] = 0
 run stop (x ∷ s) = elim (stop x) [ true ↦ 0 | false ↦ suc (run stop s) ]
 
--- what a test answers of a byte is what p says
-abbrev pub Tells : (ℕ → Bool) → (ℕ → Bool → Type 0) → Type 0
-Tells p answers = (x : ℕ) (r : Bool) → x < 256 → answers x r → r ≡ p x
-
 -- one of two characters, or a byte of a longer one
 abbrev pub plain_stop : ℕ → ℕ → ℕ → Bool
 plain_stop a b x = (eqb x a || eqb x b) || leb 128 x

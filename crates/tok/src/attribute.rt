@@ -10,6 +10,7 @@ ghost use Rattle.reading.specs.Attribute.{advances_of, attribute_turn, attribute
 
 use reading::{Attempt, Call};
 use record::{Kind, Reading};
+use scan::runs::Stop;
 use scan::{Skip, Turn, is_next};
 use utf8::signs;
 
@@ -37,17 +38,22 @@ fn attribute_turn(s: &[u8], at: usize, next: usize, c: u32, b: usize) -> Turn
 }
 
 // A byte that the body does not only pass: a bracket, a quote, a newline, or one of a longer character.
-fn ends_plain(x: u8) -> bool
-    ensures { result ≡ attribute_stop x }
-{
-    (x == b'[') | (x == b']') | (x == b'"') | (x == b'\n') | (128 <= x)
+#[derive(Clone, Copy)]
+struct NotPlain;
+
+impl Stop for NotPlain {
+    ghost stops = { λ o. attribute_stop };
+
+    fn stops(&self, x: u8) -> bool {
+        (x == b'[') | (x == b']') | (x == b'"') | (x == b'\n') | (128 <= x)
+    }
 }
 
 // Where the bytes from a place end that are ASCII and that the body only passes: for speed alone.
 fn attribute_run(s: &[u8], from: usize) -> usize
     ensures { result ≡ from + run attribute_stop (drop from s.now) }
 {
-    scan::runs::run(s, from, |x| ends_plain(x))
+    scan::runs::run(s, from, NotPlain)
 }
 
 // Where the body of an attempt stops, after `#![`. A loop for the reason that `code` has.

@@ -9,6 +9,7 @@ ghost use Rattle.scan.specs.Walk.{turn_of};
 ghost use Rattle.reading.specs.Gaps.{comment_turn, gap_turn, gap, gap_depth_of};
 ghost use Rattle.reading.specs.Steps.{gap_stop};
 
+use scan::runs::Stop;
 use scan::{Deep, Skip, Sought, Turn};
 use utf8::signs;
 
@@ -71,23 +72,28 @@ pub fn gap_turn(s: &[u8], at: usize, next: usize, c: u32) -> Deep<Turn>
 }
 
 // A byte of a longer character, or one that is no white space.
-fn ends_space(x: u8) -> bool
-    ensures { result ≡ gap_stop x }
-{
-    if 128 <= x {
-        return true;
+#[derive(Clone, Copy)]
+struct NotSpace;
+
+impl Stop for NotSpace {
+    ghost stops = { λ o. gap_stop };
+
+    fn stops(&self, x: u8) -> bool {
+        if 128 <= x {
+            return true;
+        }
+        if unicode_xid::is_whitespace(u32::from(x)) {
+            return false;
+        }
+        true
     }
-    if unicode_xid::is_whitespace(u32::from(x)) {
-        return false;
-    }
-    true
 }
 
 // Where the bytes below 128 from a place end that are white space: for speed alone.
 pub fn gap_run(s: &[u8], from: usize) -> usize
     ensures { result ≡ from + run gap_stop (drop from s.now) }
 {
-    scan::runs::run(s, from, |x| ends_space(x))
+    scan::runs::run(s, from, NotSpace)
 }
 
 // Whether a byte below 128 stands at a place that starts no comment: after a run of white space most gaps end at one, which is not looked at again.

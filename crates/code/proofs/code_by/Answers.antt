@@ -1,4 +1,4 @@
-use Rattle.std.proofs.Common.{◌≤◌, ◌-◌, ◌+◌, ◌≡◌, sym, ap, ◌∙◌, arith, length, drop}
+use Rattle.std.proofs.Common.{◌≤◌, ◌-◌, ◌+◌, ◌≡◌, sym, ap, ◌∙◌, arith, drop}
 use Rattle.utf8.specs.Utf8.{chars}
 use Rattle.utf8.proofs.Laws.{seen}
 use Rattle.utf8.specs.Laws.{ended}
@@ -10,11 +10,8 @@ use Rattle.scan.specs.Turns.{walk-stop, walk-fail, walk_pass, walk_end}
 use Rattle.scan.specs.Walk.{walk_from}
 use Rattle.code.specs.Code.{code_depth_of, code_end, code_last, code_turn}
 use Rattle.code.specs.Laws.{code_pass, code-fail}
-use Rattle.code.specs.Stops.{depth-run, stops_length, walk-run}
+use Rattle.code.specs.Stops.{depth-run, walk-run}
 use Rattle.code.proofs.code_by.Goals as goal
-
-pub code_run-to-requires : goal.code_run-to-requires
-code_run-to-requires c = ap length c.requires ∙ stops_length
 
 pub overflow_add-p : goal.overflow_add-p
 overflow_add-p c = omega (arith, (seen _ _ _ _ (sym c.in-Some.ensures)))

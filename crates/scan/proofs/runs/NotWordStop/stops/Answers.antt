@@ -1,8 +1,8 @@
-use Rattle.std.proofs.Common.{◌≡◌, Bool, true, false, not, refl, sym, ◌∙◌}
+use Rattle.std.proofs.Common.{◌≡◌, Bool, true, false, not, refl, sym}
 use Rattle.scan.specs.declared.Sought.TheVariants.{Word}
 use Rattle.scan.specs.Runs.{seek_stop, word_on, word_stop}
 use Rattle.unicode_xid.specs.Identifier.{ascii_continue}
-use Rattle.scan.proofs.runs.ends_word.Goals as goal
+use Rattle.scan.proofs.runs.NotWordStop.stops.Goals as goal
 
 pub returns : goal.returns
 returns c = go (ascii_continue c.args.x) refl
