@@ -5,8 +5,9 @@
 mod say;
 
 use say::{difference, taken};
+use shown::came;
 use shown::page::{numbers, unchanged};
-use shown::say;
+use system::say;
 
 // The number of an answer that is made wrong, if one is: one more than it is.
 fn wrong(answer: &mut [u64], at: Option<usize>) {
@@ -77,7 +78,7 @@ fn offered(rt: &impl Print, name: &[u8], text: &[u8], page: [u64; 96]) {
     let mut after = page;
     say(rt, name);
     taken(rt, sheet::take(text, &mut after));
-    unchanged(rt, &page, &after);
+    say(rt, unchanged(&page, &after));
 }
 
 fn all_planted(rt: &impl Print) {
@@ -94,7 +95,9 @@ fn main(rt: HostRuntime) {
     one(1023, None, &mut page, &mut row);
     say(&rt, b"1024 texts, beside their recorded answers: ");
     compare(&rt, page, row);
-    numbers(&rt, &page);
+    let mut line = [0u8; 4096];
+    let to = numbers(&mut line, Some(0), &page);
+    say(&rt, came(&line, to));
     offered(&rt, b"a 1025th: ", b"a", page);
     offered(&rt, b"a 1025th that is ill-formed: ", b"a\xff", page);
     all_planted(&rt);

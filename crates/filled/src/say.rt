@@ -2,21 +2,23 @@
 use record::Refusal;
 use recorded::Difference;
 use sheet::Taken;
-use shown::{number, say};
+use shown::number;
+use system::say;
 
 // A refusal by its number, and its place.
 fn refusal(rt: &impl Print, r: Refusal) {
-    number(rt, u64::from(record::code_number(r.code)));
+    say(rt, number(u64::from(record::code_number(r.code))).bytes());
     say(rt, b" at ");
-    number(rt, r.place);
+    say(rt, number(r.place).bytes());
     say(rt, b"\n");
 }
 
 // What became of a text.
 pub(crate) fn taken(rt: &impl Print, t: Taken) {
-    match shown::page::taken(rt, t) {
-        Some(r) => refusal(rt, r),
-        None => {}
+    let (words, refused) = shown::page::taken(t);
+    say(rt, words);
+    if let Some(r) = refused {
+        refusal(rt, r);
     }
 }
 
@@ -27,11 +29,11 @@ pub(crate) fn difference(rt: &impl Print, d: Difference) {
         Difference::Length(_, _) => say(rt, b"not as many numbers\n"),
         Difference::Number(i, r, a) => {
             say(rt, b"number ");
-            number(rt, i as u64);
+            say(rt, number(i as u64).bytes());
             say(rt, b": recorded ");
-            number(rt, r);
+            say(rt, number(r).bytes());
             say(rt, b", on the sheet ");
-            number(rt, a);
+            say(rt, number(a).bytes());
             say(rt, b"\n");
         }
     }

@@ -1,7 +1,8 @@
 // String expansion.
 use crate::say::{bytes, checked};
 use escapes::{Held, Part};
-use shown::{refusal, say};
+use shown::refusal;
+use system::say;
 
 // An expansion with idx0 0 into a buffer of sixteen bytes, from a place on.
 fn expansion(rt: &impl Print, text: &[u8], place: usize) {
@@ -15,7 +16,7 @@ fn expansion(rt: &impl Print, text: &[u8], place: usize) {
         }
         Err(r) => {
             say(rt, b" ");
-            refusal(rt, r);
+            say(rt, refusal(r).bytes());
         }
     }
 }

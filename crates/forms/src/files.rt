@@ -1,16 +1,17 @@
 // LTK files.
 use crate::say::{bytes, record_line};
 use record::Refusal;
-use shown::{number, refusal, say};
+use shown::{number, refusal};
+use system::say;
 
 fn answer(rt: &impl Print, a: Result<usize, Refusal>) {
     match a {
         Ok(n) => {
             say(rt, b"done ");
-            number(rt, n as u64);
+            say(rt, number(n as u64).bytes());
             say(rt, b"\n");
         }
-        Err(r) => refusal(rt, r),
+        Err(r) => say(rt, refusal(r).bytes()),
     }
 }
 

@@ -1,20 +1,21 @@
 // Every kind and every refusal, by number.
-use shown::{code, kind, number, say};
+use shown::{code, kind, number};
+use system::say;
 
 fn kinds(rt: &impl Print) {
     for n in 0..55 {
-        number(rt, n);
+        say(rt, number(n).bytes());
         say(rt, b" ");
-        kind(rt, n);
+        say(rt, kind(n).bytes());
         say(rt, b"\n");
     }
 }
 
 fn codes(rt: &impl Print) {
     for n in 0..31 {
-        number(rt, n);
+        say(rt, number(n).bytes());
         say(rt, b" ");
-        code(rt, n);
+        say(rt, code(n).bytes());
         say(rt, b"\n");
     }
 }

@@ -1,11 +1,12 @@
 // What this program prints with besides.
 use record::Refusal;
-use shown::{came, number, refusal, say};
+use shown::{came, number, refusal};
+use system::say;
 
 pub(crate) fn checked(rt: &impl Print, c: Result<(), Refusal>) {
     match c {
         Ok(()) => say(rt, b"passed\n"),
-        Err(r) => refusal(rt, r),
+        Err(r) => say(rt, refusal(r).bytes()),
     }
 }
 
@@ -13,13 +14,13 @@ pub(crate) fn checked(rt: &impl Print, c: Result<(), Refusal>) {
 pub(crate) fn record_line(rt: &impl Print, k: u64, start: u64, end: u64) {
     let mut buffer = [0u8; 128];
     let to = text::token_line(&mut buffer, Some(0), k, start, end);
-    came(rt, &buffer, to);
+    say(rt, came(&buffer, to));
 }
 
 // Bytes, each as a number.
 pub(crate) fn bytes(rt: &impl Print, words: &[u8]) {
     for x in words {
         say(rt, b" ");
-        number(rt, u64::from(*x));
+        say(rt, number(u64::from(*x)).bytes());
     }
 }

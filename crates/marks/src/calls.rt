@@ -2,7 +2,8 @@
 use crate::say::{named, record_line, state};
 use reading::{Tokenizer, What};
 use record::Token;
-use shown::{refusal, say};
+use shown::refusal;
+use system::say;
 
 fn token(rt: &impl Print, t: Token) {
     record_line(
@@ -20,7 +21,7 @@ fn call(rt: &impl Print, text: &[u8], t: Tokenizer) -> Tokenizer {
     let s = lent::next_lent(text, 0, u64::MAX, t);
     match s.what {
         What::Got(x) => token(rt, x),
-        What::Error(r) => refusal(rt, r),
+        What::Error(r) => say(rt, refusal(r).bytes()),
         What::End => say(rt, b"end\n"),
     }
     s.next

@@ -1,7 +1,8 @@
 // What this program prints with besides.
 use reading::{Outcome, Tokenizer};
 use record::Refusal;
-use shown::{came, kind, number, say};
+use shown::{came, kind, number};
+use system::say;
 
 pub(crate) fn named(rt: &impl Print, name: &[u8]) {
     say(rt, name);
@@ -10,16 +11,16 @@ pub(crate) fn named(rt: &impl Print, name: &[u8]) {
 
 // A record's line, with its payload's places where it has one.
 pub(crate) fn record_line(rt: &impl Print, k: u64, start: u64, end: u64, a: u64, b: u64) {
-    number(rt, start);
+    say(rt, number(start).bytes());
     say(rt, b" ");
-    number(rt, end);
+    say(rt, number(end).bytes());
     say(rt, b" ");
-    kind(rt, k);
+    say(rt, kind(k).bytes());
     if (a != start) | (b != start) {
         say(rt, b" payload ");
-        number(rt, a);
+        say(rt, number(a).bytes());
         say(rt, b" ");
-        number(rt, b);
+        say(rt, number(b).bytes());
     }
     say(rt, b"\n");
 }
@@ -33,7 +34,7 @@ fn error_line(rt: &impl Print, r: Refusal, advances: u64) {
         r.place,
         advances,
     );
-    came(rt, &buffer, to);
+    say(rt, came(&buffer, to));
 }
 
 // How a run stopped, and its advances.
@@ -42,7 +43,7 @@ pub(crate) fn last_line(rt: &impl Print, how: Outcome, advances: u64) {
         Outcome::Refused(r) => error_line(rt, r, advances),
         Outcome::Ended => {
             say(rt, b"end advances ");
-            number(rt, advances);
+            say(rt, number(advances).bytes());
             say(rt, b"\n");
         }
         Outcome::Running => say(rt, b"running\n"),
@@ -52,8 +53,8 @@ pub(crate) fn last_line(rt: &impl Print, how: Outcome, advances: u64) {
 // A tokenizer's cursor and count.
 pub(crate) fn state(rt: &impl Print, t: Tokenizer) {
     say(rt, b"cursor ");
-    number(rt, t.at);
+    say(rt, number(t.at).bytes());
     say(rt, b" count ");
-    number(rt, t.count);
+    say(rt, number(t.count).bytes());
     say(rt, b"\n");
 }

@@ -3,13 +3,14 @@
 
 use place::Place;
 use record::Refusal;
-use shown::{number, refusal, say};
+use shown::{number, refusal};
+use system::say;
 
 fn line_and_column(rt: &impl Print, line: u64, column: u64) {
     say(rt, b"line ");
-    number(rt, line);
+    say(rt, number(line).bytes());
     say(rt, b" column ");
-    number(rt, column);
+    say(rt, number(column).bytes());
 }
 
 // The place of a line and a column, after a word for it.
@@ -17,10 +18,10 @@ fn located(rt: &impl Print, word: &[u8], l: Result<u64, Refusal>) {
     match l {
         Ok(at) => {
             say(rt, word);
-            number(rt, at);
+            say(rt, number(at).bytes());
             say(rt, b"\n");
         }
-        Err(r) => refusal(rt, r),
+        Err(r) => say(rt, refusal(r).bytes()),
     }
 }
 
@@ -31,11 +32,11 @@ fn answer(rt: &impl Print, text: &[u8], p: Place) {
 
 fn there(rt: &impl Print, text: &[u8], at: u64) {
     say(rt, b"place ");
-    number(rt, at);
+    say(rt, number(at).bytes());
     say(rt, b" ");
     match place::line_column(text, at) {
         Ok(p) => answer(rt, text, p),
-        Err(r) => refusal(rt, r),
+        Err(r) => say(rt, refusal(r).bytes()),
     }
 }
 

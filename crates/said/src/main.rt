@@ -6,13 +6,14 @@ ghost use Rattle.std.specs.Prelude.{◌≡◌, length};
 use commands::Said;
 use record::Reading;
 use run::Group;
-use shown::{came_or, say};
+use shown::came_or;
+use system::say;
 
 // What is said for the two outputs.
 fn both(rt: &impl Print, said: Said, out: &[u8], err: &[u8]) {
-    came_or(rt, out, said.out, b"(no room)\n");
+    say(rt, came_or(out, said.out, b"(no room)\n"));
     say(rt, b"for people: ");
-    came_or(rt, err, said.err, b"(no room)\n");
+    say(rt, came_or(err, said.err, b"(no room)\n"));
     say(rt, b"\n");
 }
 

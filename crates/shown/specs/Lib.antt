@@ -1,2 +1,4 @@
--- Page: the refusal whose line follows what became of a text
+-- Came: what of a buffer is said
+pub mod Came
+-- Page: what a text and a sheet are told with
 pub mod Page

@@ -12,7 +12,7 @@ use std::env::FillError;
 use std::fs::File;
 use std::io::{Error, ErrorKind, Read, Result, Write};
 use std::rt::{Env, Files};
-pub use telling::{Stopped, fault, has_options, write_came, write_err, write_out, wrong};
+pub use telling::{Stopped, fault, has_options, say, write_came, write_err, write_out, wrong};
 
 // How often a read that a signal interrupted is tried again.
 const TRIES: u32 = 1000000;

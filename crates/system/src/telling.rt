@@ -15,6 +15,11 @@ impl From<Error> for Stopped {
     }
 }
 
+// What cannot be written is let go.
+pub fn say(rt: &impl Print, words: &[u8]) {
+    let _ = rt.write_all(words);
+}
+
 // What cannot be written to standard error is let go.
 fn tell(rt: &HostRuntime, words: &[u8]) {
     let _ = crate::write_whole(&mut rt.stderr(), words);

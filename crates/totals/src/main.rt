@@ -5,12 +5,14 @@ mod refusals;
 mod small;
 
 use sheet::Taken;
+use system::say;
 
 // What became of a text, with the refusal's line.
 fn taken(rt: &impl Print, t: Taken) {
-    match shown::page::taken(rt, t) {
-        Some(r) => shown::refusal(rt, r),
-        None => {}
+    let (words, refused) = shown::page::taken(t);
+    say(rt, words);
+    if let Some(r) = refused {
+        say(rt, shown::refusal(r).bytes());
     }
 }
 

@@ -1,7 +1,7 @@
 // Numbers that no sheet has, and too few of them.
 use crate::taken;
 use shown::page::unchanged;
-use shown::say;
+use system::say;
 
 // Number i of a sheet that has taken so many texts.
 fn holding(texts: u64, i: usize, n: u64) -> [u64; 96] {
@@ -18,7 +18,7 @@ fn offered(rt: &impl Print, name: &[u8], text: &[u8], page: [u64; 96]) {
     let mut after = page;
     say(rt, name);
     taken(rt, sheet::take(text, &mut after));
-    unchanged(rt, &page, &after);
+    say(rt, unchanged(&page, &after));
 }
 
 // A sheet without its last number.
@@ -27,7 +27,7 @@ fn short(rt: &impl Print) {
     let mut page = before;
     say(rt, b"95 numbers: ");
     taken(rt, sheet::take(b"a", &mut page));
-    unchanged(rt, &before, &page);
+    say(rt, unchanged(&before, &page));
 }
 
 // 2^50 for each text taken is the most that a sheet holds.

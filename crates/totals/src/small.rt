@@ -1,7 +1,14 @@
 // Seventeen texts: what each adds to an empty sheet, by index, and then their sum; of the depths (61) the greatest.
 use crate::taken;
-use shown::page::numbers;
-use shown::say;
+use shown::came;
+use system::say;
+
+// The sheet's numbers that are not 0.
+fn numbers(rt: &impl Print, page: &[u64]) {
+    let mut line = [0u8; 4096];
+    let to = shown::page::numbers(&mut line, Some(0), page);
+    say(rt, came(&line, to));
+}
 
 fn adds(rt: &impl Print, text: &[u8], sum: &mut [u64]) {
     let mut page = [0; 96];
