@@ -230,7 +230,9 @@ fn goes(n: usize, token: Token, t: Tokenizer) -> Pending
     }
 }
 
-// The next token, where there is room for it after n others.
+// The next token, where there is room for it after n others. Inlined: as a call it copies a whole Pending for each token, 89 instructions of 254 in
+// a run over brackets alone.
+#[inline(always)]
 fn pend(text: &[u8], shift: u64, limit: u64, room: usize, n: usize, t: Tokenizer) -> Pending
     requires { Ready text.now shift t }
     ensures { result ≡ pend_of text.now shift limit room n t }

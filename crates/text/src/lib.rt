@@ -16,14 +16,17 @@ use names::{
     KIND_NAMES, LIMIT, NEWLINE, PHRASES, SPACE,
 };
 
-// The bytes of words from a place on, for which there is room.
+// The bytes of words from a place on, for which there is room. A loop, and not inlined: `copy_from_slice`, and the loop where it is inlined, call
+// memmove, which no program had to bring for the archive.
+#[inline(never)]
 fn words_in(out: &mut [u8], at: usize, words: &[u8]) -> usize
     requires { at + length words.now ≤ length out.old }
     ensures { (result ≡ at + length words.now) × (out.new ≡ sets out.old at words.now) }
 {
-    let end = at + words.len();
-    out[at..end].copy_from_slice(words);
-    end
+    for (i, word) in words.iter().enumerate() {
+        out[at + i] = *word;
+    }
+    at + words.len()
 }
 
 // Every number has at most so many digits.

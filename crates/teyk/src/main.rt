@@ -72,7 +72,8 @@ fn write_said(rt: &HostRuntime, said: Said, out: &[u8], err: &[u8]) -> Result<()
     system::write_err(rt, err, said.err)
 }
 
-// A command on the bytes of one file, part by part.
+// A command on the bytes of one file, part by part. Not inlined: its rooms are for files that can be read.
+#[inline(never)]
 fn speak(
     rt: &HostRuntime,
     command: Command,
@@ -99,9 +100,9 @@ fn on_named(
     headed: bool,
     name: &[u8],
     i: usize,
+    file: &mut [u8],
 ) -> Result<(), Stopped> {
-    let mut file = file_room();
-    match system::read_named(rt, i, name, &mut file) {
+    match system::read_named(rt, i, name, file) {
         Err(why) => {
             fault(rt, name, why);
             Ok(())
@@ -111,22 +112,34 @@ fn on_named(
 }
 
 // So is it on the i-th argument.
-fn on_argument(rt: &HostRuntime, command: Command, headed: bool, i: usize) -> Result<(), Stopped> {
+fn on_argument(
+    rt: &HostRuntime,
+    command: Command,
+    headed: bool,
+    i: usize,
+    file: &mut [u8],
+) -> Result<(), Stopped> {
     let mut name = system::name_room();
     match system::argument(rt, i, &mut name) {
         Err(why) => {
             fault(rt, b"a file's name", why);
             Ok(())
         }
-        Ok(n) => on_named(rt, command, headed, &name[..n], i),
+        Ok(n) => on_named(rt, command, headed, &name[..n], i, file),
     }
 }
 
 // A command on the files that the arguments from the first on name.
-fn on_all(rt: &HostRuntime, command: Command, first: usize, count: usize) -> Result<(), Stopped> {
+fn on_all(
+    rt: &HostRuntime,
+    command: Command,
+    first: usize,
+    count: usize,
+    file: &mut [u8],
+) -> Result<(), Stopped> {
     let headed = 1 < count.saturating_sub(first);
     for i in first..count {
-        on_argument(rt, command, headed, i)?;
+        on_argument(rt, command, headed, i, file)?;
     }
     Ok(())
 }
@@ -164,16 +177,17 @@ fn command_named(rt: &impl Env, name: &[u8]) -> Option<Command> {
     }
 }
 
-// Without a file it is on standard input.
+// Without a file it is on standard input. One room is lent for all files: to make one takes longer than to find that there is no such file.
 fn run_command(rt: &HostRuntime, command: Command, count: usize) -> Result<(), Stopped> {
     let first = command.first_file();
     if system::has_options(rt, first, count) {
         return Ok(());
     }
+    let mut file = file_room();
     if count <= first {
-        return on_named(rt, command, false, b"-", first);
+        return on_named(rt, command, false, b"-", first, &mut file);
     }
-    on_all(rt, command, first, count)
+    on_all(rt, command, first, count, &mut file)
 }
 
 fn main(rt: HostRuntime) {

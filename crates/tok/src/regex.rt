@@ -43,7 +43,8 @@ fn hashed(s: &[u8], rd: Reading, o: usize, h: usize, at: usize) -> Call
     }
 }
 
-// After r at o, where a hash or a quote stands.
+// After r at o, where a hash or a quote stands. Inlined, since it stands in the deepest chain of calls: with it as a call that takes 304 bytes more stack.
+#[inline(always)]
 fn regex_literal(s: &[u8], rd: Reading, o: usize, at: usize) -> Call
     ensures { result ≡ regex_literal rd (left s.now o) o (left s.now at) at }
 {

@@ -1,14 +1,16 @@
-use Rattle.std.proofs.Common.{◌≡◌, ◌+◌, ◌-◌, ◌≤◌, arith, sym, ◌∙◌, refl, length, ℕ, List, drop, take, append_assoc}
-use Rattle.std.proofs.lemmas.List.{drop-drop}
-use Rattle.std.proofs.lemmas.List.Edits.{sets, sets-eq}
-use borrow.Rule.Slice.PartMut.{put_mid}
+use Rattle.std.proofs.Common.{arith, refl}
+use Rattle.std.proofs.Math.ListN.{length-set}
+use Rattle.text.specs.Stores.{stored_all, stored_on}
 use Rattle.text.proofs.words_in.Goals as goal
 
--- a part of a buffer that is written as a whole, and the same byte by byte
-copied : (d w : List ℕ) (at : ℕ) → at + length w ≤ length d → put_mid at (at + length w - at) d w ≡ sets d at w
-copied d w at h =
-    let e : at + (at + length w - at) ≡ at + length w = omega arith in
-    simp (drop-drop, e) (sym (sets-eq w d at h ∙ append_assoc (take at d) w (drop (at + length w) d)))
+pub loop-i-preserved : goal.loop-i-preserved
+loop-i-preserved c =
+    let l = c.loop-i in
+    let a = c.args in
+    (stored_on a.out.now a.at l.i a.words.now l.out l.invariant.0 (omega arith), simp length-set l.invariant.1)
 
 pub returns : goal.returns
-returns c = (refl, rw c.copy_from_slice.ensures.after (copied _ _ _ c.requires))
+returns c =
+    let l = c.loop-i in
+    let a = c.args in
+    (refl, (stored_all a.out.now a.at l.i a.words.now l.out l.invariant.0 (omega arith) (omega arith)).1)
