@@ -2,7 +2,7 @@
  *
  * The archive target/staticlib/libteykonasir.a is made by `tools/archives teykonasir`, for x86-64 Linux. teyk_sheet_take and teyk_read stand each in an
  * archive of its own: libteykonasir_sheet.a, made by `tools/archives teykonasir_sheet`, and libteykonasir_read.a, made by `tools/archives teykonasir_read`. A
- * program may link any of the three, and all. They need memcpy and memset of the C library and nothing else, and take no memory beyond what is lent to
+ * program may link any of the three, and all. They need at most memcpy and memset of the C library, and take no memory beyond what is lent to
  * them and a fixed stack.
  *
  * What every function has in common
@@ -15,8 +15,8 @@
  *   - Nothing else is written than what is said here.
  *   - Threads: there is no state but what is lent. Every function may be called from any number of threads at once, as long as no slice
  *     that one call writes is used by another.
- *   - Stack: no function calls itself. The frames of the deepest chain of calls in the archives' code take 1,528 bytes together, those of
- *     teyk_sheet_take 1,928, and 128 below the last of them may be used; 1,336 and 1,720 were seen used on a painted stack (both by
+ *   - Stack: no function calls itself. The frames of the deepest chain of calls in the archives' code take 1,400 bytes together, those of
+ *     teyk_sheet_take 1,784, and 128 below the last of them may be used; 1,200 and 1,568 were seen used on a painted stack (both by
  *     beside/stack). Where the dynamic loader binds memcpy or memset only at its first call, that call takes some 3,200 more.
  *   - Words are Unicode 15.0.0's: XID_Start, XID_Continue and White_Space.
  */
